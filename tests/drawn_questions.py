@@ -16,6 +16,7 @@ from cut_model import BLOCKS, PAGES, State, first_place, is_command, kept_text, 
 from list_model import list_of, parts_of
 from script_draws import ALL, FEW, FIRST, HOMES, LEFT, MIXED, NAMES, OF_FILES
 from script_draws import altered, files_drawn, order, read_drawn, story, story_of_files
+from slip_model import first_slip
 from table_model import table_of
 
 BY_IMAGE = 20  # scripts: the first ones are of four commands alone, and they and the next ones begin on a fresh image
@@ -70,7 +71,9 @@ class Script:
         self.reads = looks + [read_drawn(draw, homes, of_files) for _ in range(0 if looks else draw.choice((1, 2, 3)))]
         self.places, self.replies, _ = places_of(image.state, ranges, self.program)
         turns = [i for i, (name, _, _) in enumerate(self.places) if len(first) < int(name.split()[1]) <= len(first + told) + 1 and told]
-        self.questions = {question(draw, self.places, turns, self.reads): None for _ in range(ASKED)}
+        drawn = dict.fromkeys(question(draw, self.places, turns, self.reads) for _ in range(ASKED))
+        self.slips = {asked: why for asked in drawn if (why := first_slip(self.reads, asked.split(" | ")))}
+        self.questions = {asked: None for asked in drawn if asked not in self.slips}
         self.tables = draw.choice(([], [], ["# table"]))
         parts = parts_of(self.reads)
         self.listed = list_of(self.places, parts, LISTED) if len(parts) <= PARTS else None
@@ -133,7 +136,19 @@ def explored(explorer, room, image, text, rows=0):
     return lines[:rows], answers, done.returncode == int(any(answer != "never" for answer in answers))
 
 
+def refuse(explorer, room, script):
+    """One question is asked behind the others that no read answers so, if one was drawn."""
+    for asked, why in [*script.slips.items()][:1]:
+        text = script.text([*script.questions, asked])
+        done = subprocess.run([explorer, script.image.name], cwd=room, input=text, capture_output=True, text=True)
+        if (done.returncode, done.stdout) != (7, f"error script {text.count(chr(10))} {why}\n"):
+            sys.exit(f"status {done.returncode}, {done.stdout[:200]} in place of {why}:\n{text}")
+
+
 def compare(explorer, room, script):
+    refuse(explorer, room, script)
+    if not (script.questions or script.tables or script.listed):
+        return
     told = (table_of(script.places, script.reads) if script.tables else []) + (script.listed or [])
     rows, answers, right = explored(explorer, room, script.image.name, script.text(script.questions), len(told))
     for row, wanted in zip(rows, told):

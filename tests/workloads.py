@@ -14,7 +14,7 @@ CASES = (
     (1, 1, "bench commands 4 ok 3 data 0 cuts 0 sum 0"),
     (1, 20_000, None),
     (2, 1_000, None),
-    (4_294_967_295, 1_000, None),
+    (4_294_967_295, 100_000, None),
 )
 MAP = "map f0 0 65536 shared"
 

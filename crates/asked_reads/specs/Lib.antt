@@ -4,3 +4,6 @@ pub mod Looking
 pub mod Asking
 pub mod Fitting
 pub mod Rows
+pub use Rattle.outcomes.specs.Durable
+pub use Rattle.outcomes.specs.MachineModel
+pub use Rattle.outcomes.specs as Outcomes

@@ -7,6 +7,7 @@ mod read;
 mod reads;
 
 pub use laws::worked_fits;
+pub use outcomes::durable_laws;
 pub use question::Question;
 pub use read::Read;
 pub use reads::{BlockRead, BlockReply, FileRead, PageRead, PageReply};

@@ -1,6 +1,6 @@
 use crate::reads::{BlockRead, FileRead, PageRead};
 
-/// What is asked of a look: the replies of its reads of the volume, of blocks and of files.
+/// Question about a look: the replies of its reads of the volume, of blocks and of files.
 #[derive(Debug, Drop)]
 pub struct Question {
     pub volume: Vec<PageRead>,

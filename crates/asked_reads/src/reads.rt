@@ -13,7 +13,7 @@ pub enum PageReply {
     Refuses(Why),
 }
 
-/// A read of so many bytes.
+/// A read of a number of bytes.
 #[derive(Debug, Drop)]
 pub struct PageRead {
     pub start: u64,
@@ -21,7 +21,7 @@ pub struct PageRead {
     pub reply: PageReply,
 }
 
-/// A read of so many bytes of the file of a name.
+/// A read of a number of bytes of the file of a name.
 #[derive(Debug, Drop)]
 pub struct FileRead {
     pub name: Name,
@@ -40,7 +40,7 @@ pub enum BlockReply {
     Refuses(Why),
 }
 
-/// A read of so many blocks.
+/// A read of a number of blocks.
 #[derive(Debug, Drop)]
 pub struct BlockRead {
     pub first: u64,

@@ -3,8 +3,6 @@
 
 mod rows;
 mod table;
-#[cfg(test)]
-mod tests;
 
 pub use rows::worked_attributes;
 pub use table::value;

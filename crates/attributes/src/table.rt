@@ -9,7 +9,7 @@ use word_tables::Geometry;
 /// Pages that stay free of files: the most that one write of all or nothing replaces.
 const SPARE_PAGES: u64 = 16;
 
-/// What the attribute of that name tells of a medium, None where no attribute has it.
+/// What the attribute of that name is of a medium, None where no attribute has it.
 pub fn value(name: &[u8], geo: Geometry) -> Option<u64>
     requires { IsValid geo }
     ensures { result ≡ attribute name.now geo }

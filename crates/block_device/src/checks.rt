@@ -18,7 +18,7 @@ use word_tables::Geometry;
 /// Most spans of blocks that change together.
 const MOST_SPANS: usize = 8;
 
-/// Whether so many bytes are whole blocks from that one on.
+/// Whether a number of bytes are whole blocks from that one on.
 pub fn check_bytes(count: u64, block: u64, len: u64) -> Result<(), BlockFault>
     requires { count ≤ 4096 }
     ensures { Checks (bytes_refusal count block len) result }
@@ -33,7 +33,7 @@ pub fn check_bytes(count: u64, block: u64, len: u64) -> Result<(), BlockFault>
     Ok(())
 }
 
-/// Whether spans of blocks are there, and none is empty.
+/// Whether spans of blocks exist, and none is empty.
 pub fn check_spans(count: u64, spans: &[Span]) -> Result<(), BlockFault>
     requires { count ≤ 4096 }
     ensures { Checks (spans_refusal count spans.now) result }

@@ -8,7 +8,7 @@ use word_log::LogFault;
 /// Why a call on blocks was not done, or not wholly.
 #[derive(Clone, Copy, Debug, PartialEq, Eq)]
 pub enum BlockFault {
-    /// There are not so many blocks.
+    /// Block past the last one.
     Range,
     /// No blocks, or no whole ones.
     Length,
@@ -16,9 +16,9 @@ pub enum BlockFault {
     Limit,
     /// Two spans share a block.
     Overlap,
-    /// This line of metadata is bad, the lowest one.
+    /// Lowest line of metadata that is bad.
     Meta(LineNo),
-    /// This block was made unreadable.
+    /// Block that was made unreadable.
     Scarred(u64),
     /// In this block that line, 0 to 7, is bad.
     Poison(u64, u64),
@@ -31,7 +31,7 @@ pub enum BlockFault {
 /// Why blocks could not be mounted.
 #[derive(Clone, Copy, Debug, PartialEq, Eq)]
 pub enum MountFault {
-    /// This line of log or map is bad.
+    /// Line of log or map that is bad.
     Poisoned(LineNo),
     /// The word at this place is the first that is wrong.
     Bad(u64),

@@ -16,8 +16,6 @@ mod preparing;
 mod queries;
 mod reading;
 mod switching;
-#[cfg(test)]
-mod tests;
 mod writing;
 
 pub use area::block_area;

@@ -27,7 +27,7 @@ impl Blocks {
         self.geo.blocks
     }
 
-    /// Whether a block is there, scarred or not.
+    /// Whether a block exists, scarred or not.
     pub fn exists(&self, block: u64) -> Result<bool, BlockFault>
         ensures ok { IfOk result (λ there. (block < self.now.geo.blocks)
             × (IsTrue there ↔ (slice_get self.now.map block ≢ Some Absent))) }

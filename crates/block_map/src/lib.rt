@@ -8,6 +8,3 @@ mod table;
 pub use map::{BlockMap, EXTRA_UNITS};
 pub use state::BlockState;
 pub use table::TableFault;
-
-#[cfg(test)]
-mod tests;

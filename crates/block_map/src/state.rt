@@ -6,7 +6,7 @@ ghost use Rattle.block_map.specs.States.{IsBelow, state_of, word_of};
 pub enum BlockState {
     /// Nowhere: it was never written, or is discarded.
     Absent,
-    /// They are lost.
+    /// Its bytes are lost.
     Scarred,
     /// On that physical block.
     At(u64),

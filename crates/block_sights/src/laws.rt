@@ -30,7 +30,7 @@ pub fn lost_lines_are_seen()
         → sight (nth (lose block line blocks) b) ≡ sight_lost block line b (sight (nth blocks b)) }
 {}
 
-/// What reads see of a block tells what keeps it from being read, and its 512 bytes where nothing does: they are what
+/// What reads see of a block is what keeps it from being read, and its 512 bytes where nothing does: they are what
 /// a read of it is answered.
 pub fn sights_tell_obstacles_and_bytes()
     ensures obstacle { (b : ℕ) (block : Block) → obstacle_in b block ≡ obstacle_seen b (sight block) }

@@ -5,8 +5,6 @@ mod block;
 mod change;
 mod laws;
 mod spans;
-#[cfg(test)]
-mod tests;
 
 pub use block::{HeldBlock, Unreadable};
 pub use change::BlockChange;

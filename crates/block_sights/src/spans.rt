@@ -6,7 +6,7 @@ ghost use Rattle.nvm_model.specs.Numbered.{is_among};
 
 use nvm_base::Span;
 
-/// Whether block b is one of so many.
+/// Whether block b is one of `count` from `start` on.
 pub(crate) fn is_among(start: u64, count: u64, b: u64) -> bool
     ensures { result ≡ is_among start count b }
 {
@@ -20,7 +20,7 @@ pub(crate) fn is_in_any(spans: &[Span], b: u64) -> bool
     spans.iter().any(|span| is_among(span.start, span.len, b))
 }
 
-/// So many bytes, or all where there are fewer, and the others.
+/// First `len` bytes, or all where there are fewer, and the others.
 pub(crate) fn split(bytes: &[u8], len: u64) -> (&[u8], &[u8])
     ensures part { result.0.now ≡ take len bytes.now }
     ensures others { result.1.now ≡ drop len bytes.now }

@@ -10,7 +10,7 @@ use thiserror::Error;
 /// Why the program's words were not read.
 #[derive(Clone, Copy, Debug, PartialEq, Eq, Error)]
 pub enum WordsFault {
-    /// They are in no form of the command line.
+    /// Words in no form of the command line.
     #[error("no form of the command line")]
     Usage,
     #[error("no memory for the words")]

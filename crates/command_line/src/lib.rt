@@ -9,8 +9,6 @@
 mod commands;
 mod fault;
 mod form;
-#[cfg(test)]
-mod tests;
 mod words;
 
 pub use fault::WordsFault;

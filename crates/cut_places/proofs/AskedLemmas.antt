@@ -2,11 +2,11 @@
 use Rattle.std.proofs.Common.{◌≡◌, ◌&&◌, ◌||◌, ℕ, Bool, true, false, cond, not, List, [], ◌∷◌, refl, ap}
 use Rattle.std.specs.List.{list_all}
 use Rattle.std.specs.Str.{bytes_eq}
-use Rattle.outcomes.specs.Files.{reads_of}
-use Rattle.outcomes.specs.Pages.{PageRead}
-use Rattle.asked_reads.specs.Reads.{page_read}
-use Rattle.asked_reads.specs.declared.reads.FileRead.{FileRead as Asked}
-use Rattle.asked_reads.specs.Reads.{file_reads_asked}
+use Rattle.sights.specs.Outcomes.Files.{reads_of}
+use Rattle.sights.specs.Outcomes.Pages.{PageRead}
+use Rattle.sights.specs.AskedReads.Reads.{page_read}
+use Rattle.sights.specs.AskedReads.declared.reads.FileRead.{FileRead as Asked}
+use Rattle.sights.specs.AskedReads.Reads.{file_reads_asked}
 
 -- those of other files are passed over
 pub all_of_file : (f : PageRead → Bool) (name : List ℕ) (reads : List Asked)

@@ -11,24 +11,24 @@ use Rattle.nvm_model.specs.Page.{cell_of}
 use Rattle.nvm_model.specs.Storage.{File, Mapping}
 use Rattle.mappings.specs.declared.info.MapInfo.{MapInfo}
 use Rattle.mappings.specs.Object.{MappingsState, info_of}
-use Rattle.scrub.specs.Refusals.{cell_refusal, file_clear_refusal, file_refusal, line_refusal}
-use Rattle.scrub.specs.Refusals.ScrubRefusal.{Range}
+use Rattle.marked_lines.specs.Refusals.{cell_refusal, file_clear_refusal, file_refusal, line_refusal}
+use Rattle.marked_lines.specs.Refusals.ScrubRefusal.{Range}
 use Rattle.reply_text.specs.declared.reply.Why.TheVariants as because
 use Rattle.reply_text.specs.Answer.Answer.{Done, Handle, Refused}
 use Rattle.script_text.specs.Action.{Action}
 use Rattle.script_text.specs.Action.Action.{BRead, BWrite, BAtomic, BMulti, BDiscard, BDiscardIf, BExists, BScar, VLoad, VStore, VSync, VRanges, VPSync, VDiscard, VDiscardIf, VExists, Create, Delete, Rename, Resize, ListFiles, FRead, FWrite, FAtomic, FMulti, FDiscard, FSync, Map, Unmap, Load, Store, Sync, Flush, FlushVerify, DeepFlush, NextEvent, CheckFile, PoisonBlock, PoisonVolume, PoisonFile, PoisonMeta, WeakenFile, WeakenVolume, ClearFile, ClearVolume, Cut, CutIn, FailIn, Restart, Recover, Attr, Evict}
-use Rattle.machine_host.specs.declared.look.Look.{Look}
-use Rattle.machine_host.specs.declared.look.Look.TheVariants.{Once, Again}
-use Rattle.machine_host.specs.Commands.{meaning, refusal}
-use Rattle.machine_host.specs.Machine.{Machine}
-use Rattle.machine_host.specs.Machine.Fate.{Gives, Works}
-use Rattle.machine_host.specs.Meaning.{Meaning, metadata_refusal, mode_refusal}
-use Rattle.machine_host.specs.OnFiles.{if_exists, if_mapped, if_missing}
-use Rattle.machine_host.specs.OnFlushes.{all_moved, flush_file, flush_through, nothing_done}
-use Rattle.machine_host.specs.OnMappings.{if_full_of_mappings, load_through, read_copy, store_through, with_mapping, write_copy}
-use Rattle.machine_host.specs.OnMedia.{line_answer}
-use Rattle.machine_host.specs.OnPages.{fread, fwrite, pages_named}
-use Rattle.outcomes.specs.Stops.{led_to}
+use Rattle.sights.specs.MachineModel.declared.look.Look.{Look}
+use Rattle.sights.specs.MachineModel.declared.look.Look.TheVariants.{Once, Again}
+use Rattle.sights.specs.MachineModel.Commands.{meaning, refusal}
+use Rattle.sights.specs.MachineModel.Machine.{Machine}
+use Rattle.sights.specs.MachineModel.Machine.Fate.{Gives, Works}
+use Rattle.sights.specs.MachineModel.Meaning.{Meaning, metadata_refusal, mode_refusal}
+use Rattle.sights.specs.MachineModel.OnFiles.{if_exists, if_mapped, if_missing}
+use Rattle.sights.specs.MachineModel.OnFlushes.{all_moved, flush_file, flush_through, nothing_done}
+use Rattle.sights.specs.MachineModel.OnMappings.{if_full_of_mappings, load_through, read_copy, store_through, with_mapping, write_copy}
+use Rattle.sights.specs.MachineModel.OnMedia.{line_answer}
+use Rattle.sights.specs.MachineModel.OnPages.{fread, fwrite, pages_named}
+use Rattle.sights.specs.Outcomes.Stops.{led_to}
 use Rattle.sights.proofs.VolumeChangeLemmas.{none_first, none_mapped, none_second, places_right}
 use Rattle.cut_places.specs.FileChanges.{FilesChange, LinesChange, files_changed}
 use Rattle.cut_places.specs.FileChanges.FilesChange.{Nothing, Makes, Removes, Renames, Resizes, Changes, Maps, Unmaps}

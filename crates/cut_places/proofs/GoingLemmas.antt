@@ -5,13 +5,13 @@ use Rattle.std.proofs.lemmas.List.{drop_all}
 use Rattle.word_tables.specs.declared.geometry.Geometry.{Geometry}
 use Rattle.script_text.specs.declared.command.Command.{Command}
 use Rattle.script_text.specs.Action.{action_of}
-use Rattle.machine_host.specs.Machine.{Machine}
-use Rattle.machine_host.specs.Commands.{fate, refusal}
-use Rattle.outcomes.specs.Seen.{Seen, may_show}
-use Rattle.outcomes.specs.Stops.{IsProgram, is_of_program, led_to}
-use Rattle.asked_reads.specs.declared.question.Question.{Question}
-use Rattle.asked_reads.specs.Asking.{IsLook, may_be_replies}
-use Rattle.asked_reads.specs.Program.{inputs_of_lines}
+use Rattle.sights.specs.MachineModel.Machine.{Machine}
+use Rattle.sights.specs.MachineModel.Commands.{fate, refusal}
+use Rattle.sights.specs.Outcomes.Seen.{Seen, may_show}
+use Rattle.sights.specs.Outcomes.Stops.{IsProgram, is_of_program, led_to}
+use Rattle.sights.specs.AskedReads.declared.question.Question.{Question}
+use Rattle.sights.specs.AskedReads.Asking.{IsLook, may_be_replies}
+use Rattle.sights.specs.AskedReads.Program.{inputs_of_lines}
 use Rattle.cut_places.specs.declared.place.CutPlace.{CutPlace}
 use Rattle.cut_places.specs.declared.place.CutPlace.TheVariants.{Before, Inside}
 use Rattle.cut_places.specs.declared.sight.Sight.{Sight}

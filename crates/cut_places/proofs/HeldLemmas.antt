@@ -10,7 +10,7 @@ use Rattle.nvm_model.specs.Storage.{File}
 use Rattle.nvm_model.proofs.AlikeLemmas.{alike-put}
 use Rattle.nvm_model.proofs.AlikeChangeLemmas.{alike-rename, alike-without}
 use Rattle.nvm_model.proofs.RiseLemmas.{rises-put}
-use Rattle.durable.specs.Durable.{AllHaveLines, HaveLines}
+use Rattle.sights.specs.Durable.Durable.{AllHaveLines, HaveLines}
 use Rattle.sights.specs.Seeing.{seen}
 use Rattle.cut_places.specs.declared.line.FileLine.{FileLine}
 use Rattle.cut_places.specs.FileChanges.{FilesChange, LinesChange, files_changed, line_changed, pages_changed}

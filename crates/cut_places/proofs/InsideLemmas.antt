@@ -8,15 +8,15 @@ use Rattle.nvm_model.specs.Page.{Page, cell_of, fill}
 use Rattle.nvm_model.specs.Storage.{File}
 use Rattle.nvm_model.proofs.PageLemmas.{length-fill}
 use Rattle.script_text.specs.Action.{Action}
-use Rattle.machine_host.specs.Commands.{refusal}
-use Rattle.machine_host.specs.Machine.{Machine}
-use Rattle.machine_host.specs.OnPages.{pages_named}
-use Rattle.durable.specs.Durable.{AllHaveLines, HaveLines, IsComplete}
-use Rattle.durable.proofs.FileThereLemmas.{lines-named}
-use Rattle.outcomes.specs.Files.{FileRead, all_but, each_file, file_fits, files_fit, is_file_reply, reads_of}
-use Rattle.outcomes.specs.Left.{files_may_pass, files_pass, stored_file, synced_file}
-use Rattle.outcomes.specs.Pages.{PageRead, all_lines_read, line_fits}
-use Rattle.asked_reads.specs.Fitting.{cell_fits}
+use Rattle.sights.specs.MachineModel.Commands.{refusal}
+use Rattle.sights.specs.MachineModel.Machine.{Machine}
+use Rattle.sights.specs.MachineModel.OnPages.{pages_named}
+use Rattle.sights.specs.Durable.Durable.{AllHaveLines, HaveLines, IsComplete}
+use Rattle.sights.proofs.Durable.FileThereLemmas.{lines-named}
+use Rattle.sights.specs.Outcomes.Files.{FileRead, all_but, each_file, file_fits, files_fit, is_file_reply, reads_of}
+use Rattle.sights.specs.Outcomes.Left.{files_may_pass, files_pass, stored_file, synced_file}
+use Rattle.sights.specs.Outcomes.Pages.{PageRead, all_lines_read, line_fits}
+use Rattle.sights.specs.AskedReads.Fitting.{cell_fits}
 use Rattle.sights.specs.Seeing.{seen}
 use Rattle.sights.proofs.PassLemmas.{one_of_two}
 use Rattle.sights.proofs.SeenLemmas.{seen-fill}

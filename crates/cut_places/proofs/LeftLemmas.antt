@@ -7,16 +7,16 @@ use Rattle.mappings.specs.declared.info.MapInfo.{MapInfo}
 use Rattle.mappings.specs.Object.{info_of}
 use Rattle.script_text.specs.Action.{Action}
 use Rattle.script_text.specs.Action.Action.{BRead, BWrite, BAtomic, BMulti, BDiscard, BDiscardIf, BExists, BScar, VLoad, VStore, VSync, VRanges, VPSync, VDiscard, VDiscardIf, VExists, Create, Delete, Rename, Resize, ListFiles, FRead, FWrite, FAtomic, FMulti, FDiscard, FSync, Map, Unmap, Load, Store, Sync, Flush, FlushVerify, DeepFlush, NextEvent, CheckFile, PoisonBlock, PoisonVolume, PoisonFile, PoisonMeta, WeakenFile, WeakenVolume, ClearFile, ClearVolume, Cut, CutIn, FailIn, Restart, Recover, Attr, Evict}
-use Rattle.machine_host.specs.declared.look.Look.{Look}
-use Rattle.machine_host.specs.declared.look.Look.TheVariants.{Once, Again}
-use Rattle.machine_host.specs.Commands.{meaning}
-use Rattle.machine_host.specs.Meaning.{FilesLeft, Meaning}
-use Rattle.machine_host.specs.Meaning.FilesLeft.{Unchanged}
-use Rattle.machine_host.specs.OnFlushes.{all_moved, flush_file, flush_through, nothing_done}
-use Rattle.machine_host.specs.OnMappings.{load_through, read_copy, store_through, write_copy}
-use Rattle.machine_host.specs.OnPages.{fread, fwrite}
-use Rattle.outcomes.specs.Files.{FileRead}
-use Rattle.outcomes.specs.Left.{files_pass}
+use Rattle.sights.specs.MachineModel.declared.look.Look.{Look}
+use Rattle.sights.specs.MachineModel.declared.look.Look.TheVariants.{Once, Again}
+use Rattle.sights.specs.MachineModel.Commands.{meaning}
+use Rattle.sights.specs.MachineModel.Meaning.{FilesLeft, Meaning}
+use Rattle.sights.specs.MachineModel.Meaning.FilesLeft.{Unchanged}
+use Rattle.sights.specs.MachineModel.OnFlushes.{all_moved, flush_file, flush_through, nothing_done}
+use Rattle.sights.specs.MachineModel.OnMappings.{load_through, read_copy, store_through, write_copy}
+use Rattle.sights.specs.MachineModel.OnPages.{fread, fwrite}
+use Rattle.sights.specs.Outcomes.Files.{FileRead}
+use Rattle.sights.specs.Outcomes.Left.{files_pass}
 use Rattle.cut_places.specs.FileChanges.{FilesChange, LinesChange, files_changed, left_by}
 use Rattle.cut_places.specs.FileCommands.{files_change, persisted_at, stored_at, through}
 use Rattle.cut_places.specs.Maps.{if_shared, shown, uncopied}

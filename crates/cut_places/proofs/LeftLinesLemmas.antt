@@ -4,11 +4,11 @@ use Rattle.nvm_model.specs.Cell.{Cell}
 use Rattle.nvm_model.specs.Listing.{file_name, file_of, is_named}
 use Rattle.nvm_model.proofs.AlikeLemmas.{alike-found}
 use Rattle.script_text.specs.Action.{Action}
-use Rattle.machine_host.specs.Commands.{meaning, refusal}
-use Rattle.machine_host.specs.Machine.{Machine}
-use Rattle.durable.specs.Durable.{IsComplete}
-use Rattle.outcomes.specs.Files.{FileRead}
-use Rattle.outcomes.specs.Stops.{led_to}
+use Rattle.sights.specs.MachineModel.Commands.{meaning, refusal}
+use Rattle.sights.specs.MachineModel.Machine.{Machine}
+use Rattle.sights.specs.Durable.Durable.{IsComplete}
+use Rattle.sights.specs.Outcomes.Files.{FileRead}
+use Rattle.sights.specs.Outcomes.Stops.{led_to}
 use Rattle.sights.specs.Seeing.{seen}
 use Rattle.cut_places.specs.FileChanges.{FilesChange, LinesChange}
 use Rattle.cut_places.specs.FileChanges.FilesChange.{Nothing, Makes, Removes, Renames, Resizes, Changes, Maps, Unmaps}

@@ -19,3 +19,7 @@ pub mod WorkLemmas
 pub mod StepLemmas
 pub mod GoingLemmas
 pub mod WithinLemmas
+pub use Rattle.sights.proofs.Durable
+pub use Rattle.sights.proofs.MachineModel
+pub use Rattle.sights.proofs.Outcomes
+pub use Rattle.sights.proofs as SightsSeen

@@ -5,18 +5,18 @@ use Rattle.nvm_model.specs.Blocks.{nth}
 use Rattle.nvm_model.specs.Page.{cell_of}
 use Rattle.nvm_model.specs.Storage.{File, Mapping}
 use Rattle.script_text.specs.Action.{Action}
-use Rattle.machine_host.specs.Machine.{Machine}
-use Rattle.machine_host.specs.Commands.{meaning, refusal, while_interrupted}
-use Rattle.machine_host.specs.Meaning.{FilesLeft}
-use Rattle.machine_host.specs.Meaning.FilesLeft.{Unchanged, OldOrNew, StoredInPart, SyncedInPart}
-use Rattle.durable.specs.Durable.{IsComplete}
-use Rattle.outcomes.specs.Blocks.{BlockRead, all_numbers_read, block_fits, is_block_reply}
-use Rattle.outcomes.specs.Left.{blocks_may_pass, files_may_pass, files_pass, volume_may_pass}
-use Rattle.outcomes.specs.Pages.{PageRead, all_lines_read, is_reply, line_fits}
-use Rattle.outcomes.specs.Seen.{Seen, block_reads, blocks_may_show, file_reads, files_may_show, may_show, volume_may_show, volume_reads}
-use Rattle.asked_reads.specs.declared.question.Question.{Question}
+use Rattle.sights.specs.MachineModel.Machine.{Machine}
+use Rattle.sights.specs.MachineModel.Commands.{meaning, refusal, while_interrupted}
+use Rattle.sights.specs.MachineModel.Meaning.{FilesLeft}
+use Rattle.sights.specs.MachineModel.Meaning.FilesLeft.{Unchanged, OldOrNew, StoredInPart, SyncedInPart}
+use Rattle.sights.specs.Durable.Durable.{IsComplete}
+use Rattle.sights.specs.Outcomes.Blocks.{BlockRead, all_numbers_read, block_fits, is_block_reply}
+use Rattle.sights.specs.Outcomes.Left.{blocks_may_pass, files_may_pass, files_pass, volume_may_pass}
+use Rattle.sights.specs.Outcomes.Pages.{PageRead, all_lines_read, is_reply, line_fits}
+use Rattle.sights.specs.Outcomes.Seen.{Seen, block_reads, blocks_may_show, file_reads, files_may_show, may_show, volume_may_show, volume_reads}
+use Rattle.sights.specs.AskedReads.declared.question.Question.{Question}
 use Rattle.cut_places.specs.declared.sight.Sight.{Sight}
-use Rattle.asked_reads.specs.Asking.{IsLook, blocks_of, files_asked, may_be_file_reply, may_be_replies, volume_asked}
+use Rattle.sights.specs.AskedReads.Asking.{IsLook, blocks_of, files_asked, may_be_file_reply, may_be_replies, volume_asked}
 use Rattle.cut_places.specs.Following.{IsWhole, Sees}
 use Rattle.cut_places.specs.Sights.{shows, shows_inside}
 use Rattle.sights.specs.Units.{block_may_fit, line_may_fit}

@@ -17,9 +17,9 @@ use Rattle.nvm_model.proofs.PageLemmas.{length-discard, length-put_fill}
 use Rattle.nvm_model.proofs.ResizeLemmas.{replicate-item, resized-item, resized-kept}
 use Rattle.nvm_model.proofs.SeveralLemmas.{cell_of-spans, length-spans}
 use Rattle.file_actions.specs.Rewriting.{byte_laid, durable_line, rewritten, touches_any_page}
-use Rattle.durable.specs.Durable.{HaveLines}
-use Rattle.durable.proofs.PresenceLemmas.{line_in}
-use Rattle.durable.proofs.RewrittenLemmas.{byte_rewritten, length-rewritten, rewritten_line, untouched_page}
+use Rattle.sights.specs.Durable.Durable.{HaveLines}
+use Rattle.sights.proofs.Durable.PresenceLemmas.{line_in}
+use Rattle.sights.proofs.Durable.RewrittenLemmas.{byte_rewritten, length-rewritten, rewritten_line, untouched_page}
 use Rattle.sights.specs.Seeing.{or_zeros, seen}
 use Rattle.sights.proofs.SeenLemmas.{among_pages, seen-change, seen-discard, seen-put}
 use Rattle.cut_places.specs.FileChanges.{LinesChange, line_changed, pages_changed}

@@ -14,10 +14,10 @@ use Rattle.nvm_model.proofs.FileLemmas.{file_of-none}
 use Rattle.page_lines.proofs.LoopLemmas.{touches-within, within-touches}
 use Rattle.reply_text.specs.declared.reply.Why.{Why}
 use Rattle.reply_text.specs.declared.reply.Why.TheVariants as because
-use Rattle.machine_host.specs.OnPages.{pages_named}
-use Rattle.outcomes.specs.Files.{FileRead, is_file_reply, is_reply_of, reads_of}
-use Rattle.outcomes.specs.Pages.{PageRead, PageReply, all_lines_read, is_refused_for, is_reply, is_reply_by, lines_read}
-use Rattle.outcomes.specs.Pages.PageReply.{Shows, Poison, Refuses}
+use Rattle.sights.specs.MachineModel.OnPages.{pages_named}
+use Rattle.sights.specs.Outcomes.Files.{FileRead, is_file_reply, is_reply_of, reads_of}
+use Rattle.sights.specs.Outcomes.Pages.{PageRead, PageReply, all_lines_read, is_refused_for, is_reply, is_reply_by, lines_read}
+use Rattle.sights.specs.Outcomes.Pages.PageReply.{Shows, Poison, Refuses}
 use Rattle.cut_places.specs.declared.line.FileLine.{FileLine}
 use Rattle.cut_places.specs.FileFitting.{looks_at, read_passes, reads_pass, seen_pass}
 use Rattle.cut_places.specs.SeesFiles.{SeesFile, are_held, is_held, line_numbers}

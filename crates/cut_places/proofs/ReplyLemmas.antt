@@ -7,16 +7,16 @@ use Rattle.nvm_model.specs.Page.{Page}
 use Rattle.nvm_model.specs.Storage.{File, Mapping}
 use Rattle.reply_text.specs.declared.reply.Why.{Why}
 use Rattle.script_text.specs.Action.{Action}
-use Rattle.machine_host.specs.Commands.{meaning}
-use Rattle.machine_host.specs.Meaning.{FilesLeft, most_refusal}
-use Rattle.machine_host.specs.Meaning.FilesLeft.{Unchanged, OldOrNew, StoredInPart, SyncedInPart}
-use Rattle.machine_host.specs.OnPages.{pages_named}
-use Rattle.machine_host.proofs.RefusalLemmas.{read_within}
-use Rattle.outcomes.specs.Files.{FileRead, all_but, each_file, files_fit, is_file_reply, is_reply_of, reads_of}
-use Rattle.outcomes.specs.Left.{files_may_pass, files_pass, stored_file, synced_file}
-use Rattle.outcomes.specs.Pages.{PageRead, PageReply, is_given, is_reply_by}
-use Rattle.outcomes.specs.Pages.PageReply.{Shows, Poison, Refuses}
-use Rattle.asked_reads.specs.Asking.{is_given_by_some, may_be_file_reply}
+use Rattle.sights.specs.MachineModel.Commands.{meaning}
+use Rattle.sights.specs.MachineModel.Meaning.{FilesLeft, most_refusal}
+use Rattle.sights.specs.MachineModel.Meaning.FilesLeft.{Unchanged, OldOrNew, StoredInPart, SyncedInPart}
+use Rattle.sights.specs.MachineModel.OnPages.{pages_named}
+use Rattle.sights.proofs.MachineModel.RefusalLemmas.{read_within}
+use Rattle.sights.specs.Outcomes.Files.{FileRead, all_but, each_file, files_fit, is_file_reply, is_reply_of, reads_of}
+use Rattle.sights.specs.Outcomes.Left.{files_may_pass, files_pass, stored_file, synced_file}
+use Rattle.sights.specs.Outcomes.Pages.{PageRead, PageReply, is_given, is_reply_by}
+use Rattle.sights.specs.Outcomes.Pages.PageReply.{Shows, Poison, Refuses}
+use Rattle.sights.specs.AskedReads.Asking.{is_given_by_some, may_be_file_reply}
 use Rattle.cut_places.proofs.AllLemmas.{all_so}
 
 -- a read that is not refused has bytes, and not too many

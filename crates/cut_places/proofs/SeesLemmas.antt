@@ -3,10 +3,10 @@ use Rattle.std.proofs.Common.{◌≡◌, None, map, subst, sym, ap, ◌∙◌}
 use Rattle.nvm_model.specs.Listing.{AreAlike, file_name, rises}
 use Rattle.script_text.specs.Action.{Action}
 use Rattle.mappings.specs.Object.{MappingsState}
-use Rattle.machine_host.specs.Commands.{meaning, refusal}
-use Rattle.machine_host.specs.Machine.{Machine}
-use Rattle.durable.specs.Durable.{IsComplete}
-use Rattle.outcomes.specs.Stops.{led_to}
+use Rattle.sights.specs.MachineModel.Commands.{meaning, refusal}
+use Rattle.sights.specs.MachineModel.Machine.{Machine}
+use Rattle.sights.specs.Durable.Durable.{IsComplete}
+use Rattle.sights.specs.Outcomes.Stops.{led_to}
 use Rattle.cut_places.specs.FileChanges.{FilesChange}
 use Rattle.cut_places.specs.FileCommands.{files_change}
 use Rattle.cut_places.specs.Maps.{uncopied}

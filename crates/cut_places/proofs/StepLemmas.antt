@@ -13,18 +13,18 @@ use Rattle.reply_text.specs.Answer.{Answer}
 use Rattle.reply_text.specs.Answer.Answer.{Done}
 use Rattle.script_text.specs.Action.{Action}
 use Rattle.script_text.specs.Script.Input.{Asked}
-use Rattle.machine_host.specs.Machine.{Machine, Fate}
-use Rattle.machine_host.specs.Machine.Fate.{Gives, Works, Orders, Cuts, Restarts, Recovers}
-use Rattle.machine_host.specs.Commands.{fate, meaning, refusal, spending, unless_refused, while_interrupted}
-use Rattle.machine_host.specs.Run.{Takes, Transcript, answered, with_order, worked}
-use Rattle.durable.specs.Durable.{IsComplete, IsCounted}
-use Rattle.durable.proofs.WholeLemmas.{whole-heard}
-use Rattle.outcomes.specs.Finds.{IsReady}
-use Rattle.outcomes.specs.Seen.{Seen, may_show}
-use Rattle.outcomes.specs.Stops.{inside, is_of_program, led_to}
-use Rattle.outcomes.proofs.FollowLemmas.{Follows as FollowsFate, Keeps, of_program}
-use Rattle.asked_reads.specs.declared.question.Question.{Question}
-use Rattle.asked_reads.specs.Asking.{IsLook, files_asked, may_be_replies}
+use Rattle.sights.specs.MachineModel.Machine.{Machine, Fate}
+use Rattle.sights.specs.MachineModel.Machine.Fate.{Gives, Works, Orders, Cuts, Restarts, Recovers}
+use Rattle.sights.specs.MachineModel.Commands.{fate, meaning, refusal, spending, unless_refused, while_interrupted}
+use Rattle.sights.specs.MachineModel.Run.{Takes, Transcript, answered, with_order, worked}
+use Rattle.sights.specs.Durable.Durable.{IsComplete, IsCounted}
+use Rattle.sights.proofs.Durable.WholeLemmas.{whole-heard}
+use Rattle.sights.specs.Outcomes.Finds.{IsReady}
+use Rattle.sights.specs.Outcomes.Seen.{Seen, may_show}
+use Rattle.sights.specs.Outcomes.Stops.{inside, is_of_program, led_to}
+use Rattle.sights.proofs.Outcomes.FollowLemmas.{Follows as FollowsFate, Keeps, of_program}
+use Rattle.sights.specs.AskedReads.declared.question.Question.{Question}
+use Rattle.sights.specs.AskedReads.Asking.{IsLook, files_asked, may_be_replies}
 use Rattle.sights.specs.declared.line_seen.LineSeen.{LineSeen}
 use Rattle.sights.specs.declared.block_seen.BlockSeen.{BlockSeen}
 use Rattle.cut_places.specs.declared.place.CutPlace.{CutPlace}

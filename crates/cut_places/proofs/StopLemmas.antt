@@ -3,9 +3,9 @@ use Rattle.std.proofs.Common.{◌≡◌, ℕ, suc, Bool, true, false, cond, Opti
 use Rattle.script_text.specs.Action.{Action}
 use Rattle.script_text.specs.Script.{Input}
 use Rattle.script_text.specs.Script.Input.{Asked}
-use Rattle.machine_host.specs.Machine.{Machine}
-use Rattle.machine_host.specs.Commands.{fate}
-use Rattle.outcomes.specs.Stops.{led_to}
+use Rattle.sights.specs.MachineModel.Machine.{Machine}
+use Rattle.sights.specs.MachineModel.Commands.{fate}
+use Rattle.sights.specs.Outcomes.Stops.{led_to}
 use Rattle.cut_places.specs.Following.{command_stops}
 use Rattle.cut_places.specs.Places.{Stop, cut_places, first_stop}
 

@@ -8,20 +8,20 @@ use Rattle.reply_text.specs.declared.reply.Why.{Why}
 use Rattle.script_text.specs.Action.{Action}
 use Rattle.script_text.specs.Script.{Input}
 use Rattle.script_text.specs.Script.Input.{Skipped, Malformed, Overlong, Asked}
-use Rattle.machine_host.specs.Machine.{Machine, Fate}
-use Rattle.machine_host.specs.Machine.Fate.{Gives, Works, Orders, Cuts, Restarts, Recovers}
-use Rattle.machine_host.specs.Commands.{fate, meaning, refusal, unless_refused, while_interrupted}
-use Rattle.machine_host.specs.Meaning.{most_refusal}
-use Rattle.machine_host.proofs.RefusalLemmas.{read_within}
-use Rattle.outcomes.specs.Blocks.{BlockRead, BlockReply, all_numbers_read, block_fits, is_block_reply, is_block_reply_by, numbers_read}
-use Rattle.outcomes.specs.Blocks.BlockReply.{Shows as ShowsBlocks, Scar, BadLine, Refuses as RefusesBlocks}
-use Rattle.outcomes.specs.Left.{blocks_may_pass, files_may_pass, volume_may_pass}
-use Rattle.outcomes.specs.Pages.{PageRead, PageReply, all_lines_read, is_reply, is_reply_by, line_fits, lines_read}
-use Rattle.outcomes.specs.Pages.PageReply.{Shows, Poison, Refuses}
-use Rattle.outcomes.specs.Seen.{Seen, may_show}
-use Rattle.outcomes.specs.Stops.{inside, led_to}
-use Rattle.asked_reads.specs.declared.question.Question.{Question}
-use Rattle.asked_reads.specs.Asking.{IsLook, blocks_of, files_asked, may_be_replies, volume_asked}
+use Rattle.sights.specs.MachineModel.Machine.{Machine, Fate}
+use Rattle.sights.specs.MachineModel.Machine.Fate.{Gives, Works, Orders, Cuts, Restarts, Recovers}
+use Rattle.sights.specs.MachineModel.Commands.{fate, meaning, refusal, unless_refused, while_interrupted}
+use Rattle.sights.specs.MachineModel.Meaning.{most_refusal}
+use Rattle.sights.proofs.MachineModel.RefusalLemmas.{read_within}
+use Rattle.sights.specs.Outcomes.Blocks.{BlockRead, BlockReply, all_numbers_read, block_fits, is_block_reply, is_block_reply_by, numbers_read}
+use Rattle.sights.specs.Outcomes.Blocks.BlockReply.{Shows as ShowsBlocks, Scar, BadLine, Refuses as RefusesBlocks}
+use Rattle.sights.specs.Outcomes.Left.{blocks_may_pass, files_may_pass, volume_may_pass}
+use Rattle.sights.specs.Outcomes.Pages.{PageRead, PageReply, all_lines_read, is_reply, is_reply_by, line_fits, lines_read}
+use Rattle.sights.specs.Outcomes.Pages.PageReply.{Shows, Poison, Refuses}
+use Rattle.sights.specs.Outcomes.Seen.{Seen, may_show}
+use Rattle.sights.specs.Outcomes.Stops.{inside, led_to}
+use Rattle.sights.specs.AskedReads.declared.question.Question.{Question}
+use Rattle.sights.specs.AskedReads.Asking.{IsLook, blocks_of, files_asked, may_be_replies, volume_asked}
 use Rattle.sights.specs.declared.line_seen.LineSeen.{LineSeen}
 use Rattle.sights.specs.declared.block_seen.BlockSeen.{BlockSeen}
 use Rattle.cut_places.specs.declared.place.CutPlace.TheVariants.{Before, Inside}

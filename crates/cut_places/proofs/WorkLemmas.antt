@@ -9,17 +9,17 @@ use Rattle.script_text.specs.Action.{Action}
 use Rattle.script_text.specs.Action.Action.{BRead, BWrite, BAtomic, BMulti, BDiscard, BDiscardIf, BExists, BScar, VLoad, VStore, VSync, VRanges, VPSync, VDiscard, VDiscardIf, VExists, Create, Delete, Rename, Resize, ListFiles, FRead, FWrite, FAtomic, FMulti, FDiscard, FSync, Map, Unmap, Load, Store, Sync, Flush, FlushVerify, DeepFlush, NextEvent, CheckFile, PoisonBlock, PoisonVolume, PoisonFile, PoisonMeta, WeakenFile, WeakenVolume, ClearFile, ClearVolume, Cut, CutIn, FailIn, Restart, Recover, Attr, Evict}
 use Rattle.reply_text.specs.Answer.{Answer}
 use Rattle.reply_text.specs.Answer.Answer.{Done}
-use Rattle.machine_host.specs.declared.look.Look.{Look}
-use Rattle.machine_host.specs.declared.look.Look.TheVariants.{Once, Again}
-use Rattle.machine_host.specs.Machine.{Fate, Machine}
-use Rattle.machine_host.specs.Machine.Fate.{Gives, Works}
-use Rattle.machine_host.specs.Commands.{meaning}
-use Rattle.machine_host.specs.Meaning.{Meaning}
-use Rattle.machine_host.specs.Meaning.FilesLeft.{Unchanged}
-use Rattle.machine_host.specs.OnFlushes.{all_moved, flush_file, flush_through, nothing_done}
-use Rattle.machine_host.specs.OnMappings.{store_through, write_copy}
-use Rattle.machine_host.specs.OnPages.{fwrite}
-use Rattle.outcomes.specs.Files.{FileRead}
+use Rattle.sights.specs.MachineModel.declared.look.Look.{Look}
+use Rattle.sights.specs.MachineModel.declared.look.Look.TheVariants.{Once, Again}
+use Rattle.sights.specs.MachineModel.Machine.{Fate, Machine}
+use Rattle.sights.specs.MachineModel.Machine.Fate.{Gives, Works}
+use Rattle.sights.specs.MachineModel.Commands.{meaning}
+use Rattle.sights.specs.MachineModel.Meaning.{Meaning}
+use Rattle.sights.specs.MachineModel.Meaning.FilesLeft.{Unchanged}
+use Rattle.sights.specs.MachineModel.OnFlushes.{all_moved, flush_file, flush_through, nothing_done}
+use Rattle.sights.specs.MachineModel.OnMappings.{store_through, write_copy}
+use Rattle.sights.specs.MachineModel.OnPages.{fwrite}
+use Rattle.sights.specs.Outcomes.Files.{FileRead}
 use Rattle.sights.specs.Ways.{blocks_way, lines_way}
 use Rattle.cut_places.specs.FileChanges.{FilesChange, LinesChange, left_by}
 use Rattle.cut_places.specs.FileChanges.FilesChange.{Nothing, Makes, Removes, Renames, Resizes, Changes, Maps, Unmaps}

@@ -10,8 +10,8 @@ use Rattle.nvm_model.specs.Page.{Page, at_line, change_line, discard, fill, put}
 use Rattle.nvm_model.specs.Storage.{File}
 use Rattle.nvm_model.specs.Touched.{persist_spans, persist_touched}
 use Rattle.file_actions.specs.Rewriting.{byte_laid, durable_line, rewritten, touches_any_page}
-use Rattle.machine_host.specs.Meaning.{FilesLeft}
-use Rattle.machine_host.specs.Meaning.FilesLeft.{Unchanged, OldOrNew, StoredInPart, SyncedInPart}
+use Rattle.sights.specs.MachineModel.Meaning.{FilesLeft}
+use Rattle.sights.specs.MachineModel.Meaning.FilesLeft.{Unchanged, OldOrNew, StoredInPart, SyncedInPart}
 use Rattle.cut_places.specs.declared.change.FilesChange.{FilesChange as HeldFilesChange}
 use Rattle.cut_places.specs.declared.change.FilesChange.TheVariants as held_files
 use Rattle.cut_places.specs.declared.change.LinesChange.{LinesChange as HeldLinesChange}

@@ -5,10 +5,10 @@ use Rattle.std.specs.Str.{bytes_eq}
 use Rattle.nvm_model.specs.Cell.{touches}
 use Rattle.nvm_model.specs.Listing.{file_of}
 use Rattle.reply_text.specs.declared.reply.Why.TheVariants as because
-use Rattle.outcomes.specs.Files.{FileRead, reads_of}
-use Rattle.outcomes.specs.Pages.{PageRead, PageReply, is_refused_for, is_reply}
-use Rattle.outcomes.specs.Pages.PageReply.{Shows, Poison, Refuses}
-use Rattle.asked_reads.specs.Fitting.{cell_fits}
+use Rattle.sights.specs.Outcomes.Files.{FileRead, reads_of}
+use Rattle.sights.specs.Outcomes.Pages.{PageRead, PageReply, is_refused_for, is_reply}
+use Rattle.sights.specs.Outcomes.Pages.PageReply.{Shows, Poison, Refuses}
+use Rattle.sights.specs.AskedReads.Fitting.{cell_fits}
 use Rattle.cut_places.specs.declared.line.FileLine.{FileLine}
 use Rattle.cut_places.specs.FileChanges.{FilesChange, LinesChange}
 use Rattle.cut_places.specs.FileChanges.FilesChange.{Nothing, Makes, Removes, Renames, Resizes, Changes, Maps, Unmaps}

@@ -1,7 +1,7 @@
 -- Files as a cut leaves them, so that reads may be answered as is asked.
 use Rattle.std.specs.Prelude.{ℕ, Bool, List, map, Option, Some, None, if◌then◌else◌}
 use Rattle.nvm_model.specs.Listing.{change_file}
-use Rattle.outcomes.specs.Files.{FileRead}
+use Rattle.sights.specs.Outcomes.Files.{FileRead}
 use Rattle.cut_places.specs.declared.line.FileLine.{FileLine}
 use Rattle.cut_places.specs.FileChanges.{FilesChange, LinesChange}
 use Rattle.cut_places.specs.FileChanges.FilesChange.{Nothing, Makes, Removes, Renames, Resizes, Changes, Maps, Unmaps}

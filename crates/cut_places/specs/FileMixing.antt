@@ -1,7 +1,7 @@
 -- How a cut mixes old files with new ones.
 use Rattle.std.specs.Prelude.{Option, Some, None}
-use Rattle.machine_host.specs.Meaning.{FilesLeft}
-use Rattle.machine_host.specs.Meaning.FilesLeft.{Unchanged, OldOrNew, StoredInPart, SyncedInPart}
+use Rattle.sights.specs.MachineModel.Meaning.{FilesLeft}
+use Rattle.sights.specs.MachineModel.Meaning.FilesLeft.{Unchanged, OldOrNew, StoredInPart, SyncedInPart}
 use Rattle.sights.specs.declared.way.Way.{Way}
 use Rattle.sights.specs.declared.way.Way.TheVariants.{Each, Together}
 

@@ -5,15 +5,15 @@ use Rattle.nvm_model.specs.Blocks.{nth}
 use Rattle.block_sights.specs.Sights.{sight}
 use Rattle.script_text.specs.declared.command.Command.{Command}
 use Rattle.script_text.specs.Action.{Action, action_of}
-use Rattle.machine_host.specs.Machine.{Machine}
-use Rattle.machine_host.specs.Commands.{fate, refusal, while_interrupted}
-use Rattle.outcomes.specs.Blocks.{all_numbers_read}
-use Rattle.outcomes.specs.Finds.{IsReady}
-use Rattle.outcomes.specs.Pages.{all_lines_read}
-use Rattle.outcomes.specs.Seen.{Seen, may_show}
-use Rattle.outcomes.specs.Stops.{inside, led_to}
-use Rattle.asked_reads.specs.declared.question.Question.{Question}
-use Rattle.asked_reads.specs.Asking.{blocks_of, files_asked, volume_asked}
+use Rattle.sights.specs.MachineModel.Machine.{Machine}
+use Rattle.sights.specs.MachineModel.Commands.{fate, refusal, while_interrupted}
+use Rattle.sights.specs.Outcomes.Blocks.{all_numbers_read}
+use Rattle.sights.specs.Outcomes.Finds.{IsReady}
+use Rattle.sights.specs.Outcomes.Pages.{all_lines_read}
+use Rattle.sights.specs.Outcomes.Seen.{Seen, may_show}
+use Rattle.sights.specs.Outcomes.Stops.{inside, led_to}
+use Rattle.sights.specs.AskedReads.declared.question.Question.{Question}
+use Rattle.sights.specs.AskedReads.Asking.{blocks_of, files_asked, volume_asked}
 use Rattle.cut_places.specs.SeesFiles.{SeesFiles, are_held}
 use Rattle.cut_places.specs.declared.sight.Sight.{Sight}
 use Rattle.cut_places.specs.declared.place.CutPlace.{CutPlace}

@@ -10,3 +10,8 @@ pub mod FileMixing
 pub mod Sights
 pub mod Places
 pub mod Following
+pub use Rattle.sights.specs.AskedReads
+pub use Rattle.sights.specs.Durable
+pub use Rattle.sights.specs.MachineModel
+pub use Rattle.sights.specs.Outcomes
+pub use Rattle.sights.specs as SightsSeen

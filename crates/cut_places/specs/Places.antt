@@ -2,11 +2,11 @@
 use Rattle.std.specs.Prelude.{ℕ, suc, Bool, List, [], ◌∷◌, ◌++◌, map, Option, Some, None, option_map, if◌then◌else◌}
 use Rattle.script_text.specs.Script.{Input}
 use Rattle.script_text.specs.Script.Input.{Skipped, Malformed, Overlong, Asked}
-use Rattle.machine_host.specs.Machine.{Machine}
-use Rattle.machine_host.specs.Commands.{fate}
-use Rattle.outcomes.specs.Finds.{armed}
-use Rattle.outcomes.specs.Seen.{Seen, may_show}
-use Rattle.outcomes.specs.Stops.{inside, led_to}
+use Rattle.sights.specs.MachineModel.Machine.{Machine}
+use Rattle.sights.specs.MachineModel.Commands.{fate}
+use Rattle.sights.specs.Outcomes.Finds.{armed}
+use Rattle.sights.specs.Outcomes.Seen.{Seen, may_show}
+use Rattle.sights.specs.Outcomes.Stops.{inside, led_to}
 use Rattle.cut_places.specs.declared.place.CutPlace.{CutPlace}
 use Rattle.cut_places.specs.declared.place.CutPlace.TheVariants.{Before, Inside}
 

@@ -4,9 +4,9 @@ use Rattle.std.specs.List.{list_all, list_any}
 use Rattle.nvm_model.specs.Cell.{Cell}
 use Rattle.nvm_model.specs.Listing.{AreAlike, file_name, rises}
 use Rattle.nvm_model.specs.Storage.{File}
-use Rattle.machine_host.specs.Machine.{Machine}
-use Rattle.outcomes.specs.Files.{FileRead}
-use Rattle.outcomes.specs.Pages.{lines_read}
+use Rattle.sights.specs.MachineModel.Machine.{Machine}
+use Rattle.sights.specs.Outcomes.Files.{FileRead}
+use Rattle.sights.specs.Outcomes.Pages.{lines_read}
 use Rattle.sights.specs.Seeing.{seen}
 use Rattle.cut_places.specs.declared.line.FileLine.{FileLine}
 use Rattle.cut_places.specs.Maps.{uncopied}

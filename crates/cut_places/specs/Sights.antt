@@ -3,8 +3,8 @@ use Rattle.std.specs.Prelude.{◌/◌, ◌&&◌, Bool}
 use Rattle.std.specs.List.{list_all}
 use Rattle.word_tables.specs.declared.geometry.Geometry.{Geometry}
 use Rattle.script_text.specs.Action.{Action}
-use Rattle.asked_reads.specs.declared.question.Question.{Question}
-use Rattle.asked_reads.specs.Asking.{files_asked}
+use Rattle.sights.specs.AskedReads.declared.question.Question.{Question}
+use Rattle.sights.specs.AskedReads.Asking.{files_asked}
 use Rattle.cut_places.specs.FileCommands.{files_change}
 use Rattle.cut_places.specs.FileFitting.{fit_inside, fit_now}
 use Rattle.cut_places.specs.FilesState.{FilesState, after}

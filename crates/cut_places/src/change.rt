@@ -9,9 +9,9 @@ pub(crate) enum LinesChange<'a> {
     Puts { at: u64, bytes: &'a [u8] },
     /// The lines that the spans touch are made durable.
     Persists(Vec<Span>),
-    /// The pages that the ranges touch are written anew, durably, with these bytes over the old ones.
+    /// The pages that the ranges touch are written again, durably, with these bytes over the old ones.
     Rewrites { ranges: Vec<Span>, bytes: &'a [u8] },
-    /// So many pages from one on become holes.
+    /// `count` pages from one on become holes.
     Zeroes { page: u64, count: u64 },
     Loses(u64),
     Weakens(u64),

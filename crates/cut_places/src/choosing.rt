@@ -1,7 +1,7 @@
 // Which change a command makes.
 ghost use Rattle.std.specs.Prelude.{◌≡◌, ◌<◌, ◌^◌, IfOk, List};
 ghost use Rattle.std.specs.List.{All};
-ghost use Rattle.machine_host.specs.OnFlushes.{all_moved};
+ghost use Rattle.sights.specs.MachineModel.OnFlushes.{all_moved};
 ghost use Rattle.script_text.specs.Action.{action_of};
 ghost use Rattle.script_text.specs.Parsing.{InBounds, IsSmall};
 ghost use Rattle.cut_places.specs.FileChanges.{change_of};

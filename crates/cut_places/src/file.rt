@@ -86,7 +86,7 @@ impl FileSeen {
         self.renamed(alloc, self.name)
     }
 
-    /// The same file under another name.
+    /// Copy of the file under another name.
     pub(crate) fn renamed(&self, alloc: Global, name: Name) -> Result<Self, AllocError>
         ensures { IfOk result (λ file. file ≡ with_name name self.now) }
     {

@@ -4,10 +4,10 @@ ghost use Rattle.std.specs.Option.{option_copied};
 ghost use Rattle.nvm_model.specs.Listing.{file_of};
 ghost use Rattle.script_text.specs.Action.{action_of};
 ghost use Rattle.script_text.specs.Parsing.{InBounds};
-ghost use Rattle.machine_host.specs.Commands.{meaning, refusal};
-ghost use Rattle.machine_host.specs.Machine.{Machine};
-ghost use Rattle.durable.specs.Durable.{IsComplete};
-ghost use Rattle.outcomes.specs.Stops.{led_to};
+ghost use Rattle.sights.specs.MachineModel.Commands.{meaning, refusal};
+ghost use Rattle.sights.specs.MachineModel.Machine.{Machine};
+ghost use Rattle.sights.specs.Durable.Durable.{IsComplete};
+ghost use Rattle.sights.specs.Outcomes.Stops.{led_to};
 ghost use Rattle.cut_places.specs.FileChanges.{change_of};
 ghost use Rattle.cut_places.specs.FileCommands.{files_change};
 ghost use Rattle.cut_places.specs.SeesFiles.{SeesFiles};
@@ -54,7 +54,7 @@ impl FilesSeen {
         }
     }
 
-    /// One file more, behind the others.
+    /// One file more, after the others.
     pub fn add_file(&mut self, file: FileSeen) -> Result<(), AllocError>
         ensures { OnOk result (self.new ≡ record self.old { files = self.old.files ++ file ∷ [] }) }
     {
@@ -81,7 +81,7 @@ impl FilesSeen {
         self.make(&change)
     }
 
-    /// The same once more.
+    /// Copy of what is held of the files.
     pub fn duplicate(&self) -> Result<Self, AllocError>
         ensures { IfOk result (λ files. files ≡ self.now) }
     {

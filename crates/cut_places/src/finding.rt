@@ -1,24 +1,24 @@
 // Where in a program a cut first leaves what a question asks for.
 ghost use Rattle.std.specs.Prelude.{◌≡◌, true, All, IfOk, IfSome, List, OnOk, length};
 ghost use Rattle.word_tables.specs.Bounds.{IsValid};
-ghost use Rattle.machine_host.specs.Machine.{Machine};
-ghost use Rattle.outcomes.specs.Seen.{Seen};
-ghost use Rattle.outcomes.specs.Stops.{IsProgram};
-ghost use Rattle.asked_reads.specs.Asking.{IsLook, may_be_replies};
-ghost use Rattle.asked_reads.specs.Program.{IsBounded, inputs_of_lines};
+ghost use Rattle.sights.specs.MachineModel.Machine.{Machine};
+ghost use Rattle.sights.specs.Outcomes.Seen.{Seen};
+ghost use Rattle.sights.specs.Outcomes.Stops.{IsProgram};
+ghost use Rattle.sights.specs.AskedReads.Asking.{IsLook, may_be_replies};
+ghost use Rattle.sights.specs.AskedReads.Program.{IsBounded, inputs_of_lines};
 ghost use Rattle.cut_places.specs.Following.{AreDone, Follows, IsFirst, IsWhole, IsWithin, ShowsAt};
 ghost use Rattle.cut_places.specs.Places.{cut_places};
 
 use crate::place::CutPlace;
 use crate::sight::Sight;
 use crate::stepping::step;
-use asked_reads::Question;
 use script_text::Command;
+use sights::reads_asked::Question;
 use std::alloc::AllocError;
 use word_tables::Geometry;
 
 /// The first place of a cut in the program after which the question's look may show what it asks for, None where no cut leaves it. A
-/// line of the program without a command is None; `done` tells which commands the machine does not refuse. What is looked at is then
+/// line of the program without a command is None; `done` has which commands the machine does not refuse. What is looked at is then
 /// that of the place, before what is interrupted there.
 pub fn find(
     program: &[Option<Command>],

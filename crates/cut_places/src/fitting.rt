@@ -2,12 +2,12 @@
 ghost use Rattle.std.specs.Prelude.{◌≡◌, IfOk, None, Some, true};
 ghost use Rattle.script_text.specs.Action.{action_of};
 ghost use Rattle.script_text.specs.Parsing.{InBounds};
-ghost use Rattle.machine_host.specs.Commands.{refusal};
-ghost use Rattle.machine_host.specs.Machine.{Machine};
-ghost use Rattle.durable.specs.Durable.{IsComplete};
-ghost use Rattle.outcomes.specs.Files.{each_file, files_fit};
-ghost use Rattle.outcomes.specs.Left.{files_may_pass};
-ghost use Rattle.asked_reads.specs.Reads.{file_reads_asked};
+ghost use Rattle.sights.specs.MachineModel.Commands.{refusal};
+ghost use Rattle.sights.specs.MachineModel.Machine.{Machine};
+ghost use Rattle.sights.specs.Durable.Durable.{IsComplete};
+ghost use Rattle.sights.specs.Outcomes.Files.{each_file, files_fit};
+ghost use Rattle.sights.specs.Outcomes.Left.{files_may_pass};
+ghost use Rattle.sights.specs.AskedReads.Reads.{file_reads_asked};
 ghost use Rattle.cut_places.specs.FileChanges.{change_of, lines_of};
 ghost use Rattle.cut_places.specs.FileCommands.{files_change};
 ghost use Rattle.cut_places.specs.FileFitting.{fit_by_line, fit_either, fit_inside, fit_now, now_fits, reads_pass};
@@ -18,9 +18,9 @@ use crate::choosing::change_of;
 use crate::file::FileSeen;
 use crate::files::FilesSeen;
 use crate::read_fits::{read_fits, read_fits_either};
-use asked_reads::FileRead;
 use nvm_base::Name;
 use script_text::Command;
+use sights::reads_asked::FileRead;
 use std::alloc::AllocError;
 
 impl FilesSeen {

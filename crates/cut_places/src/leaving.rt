@@ -2,8 +2,8 @@
 ghost use Rattle.std.specs.Prelude.{◌≡◌, IfOk, option_map, true};
 ghost use Rattle.std.specs.Option.{option_copied};
 ghost use Rattle.script_text.specs.Action.{action_of};
-ghost use Rattle.asked_reads.specs.Program.{IsBounded};
-ghost use Rattle.asked_reads.specs.Reads.{file_reads_asked};
+ghost use Rattle.sights.specs.AskedReads.Program.{IsBounded};
+ghost use Rattle.sights.specs.AskedReads.Reads.{file_reads_asked};
 ghost use Rattle.cut_places.specs.FileChanges.{change_of, lines_of};
 ghost use Rattle.cut_places.specs.FileCommands.{files_change};
 ghost use Rattle.cut_places.specs.FileFitting.{fit_now};
@@ -13,9 +13,9 @@ use crate::change::{FilesChange, LinesChange};
 use crate::choosing::change_of;
 use crate::files::FilesSeen;
 use crate::line_leaving::leave_files;
-use asked_reads::FileRead;
 use nvm_base::Name;
 use script_text::Command;
+use sights::reads_asked::FileRead;
 use std::alloc::AllocError;
 
 impl FilesSeen {

@@ -22,11 +22,11 @@ mod read_fits;
 mod rewriting;
 mod sight;
 mod stepping;
-#[cfg(test)]
-mod tests;
 
 pub use file::FileSeen;
 pub use files::FilesSeen;
 pub use finding::find;
 pub use place::CutPlace;
 pub use sight::Sight;
+pub use sights as sights_seen;
+pub use sights::{durable_laws, reads_asked};

@@ -32,7 +32,7 @@ impl FileLine {
         }
     }
 
-    /// The same line once more.
+    /// Copy of the line.
     pub fn duplicate(&self) -> Result<Self, AllocError>
         ensures { IfOk result (λ line. line ≡ self.now) }
     {
@@ -42,14 +42,14 @@ impl FileLine {
         })
     }
 
-    /// Whether it is one of so many pages.
+    /// Whether it is one of a number of pages.
     pub fn is_within(&self, pages: u32) -> bool
         ensures { result ≡ nat_lt (self.now.number / 64) pages }
     {
         u64::from(self.number) / PAGE_LINES < u64::from(pages)
     }
 
-    /// What it is where its file has so many pages.
+    /// What it is where its file has its number of pages.
     pub fn cut(&mut self, pages: u32)
         ensures { self.new ≡ line_within pages self.old }
     {
@@ -58,7 +58,7 @@ impl FileLine {
         }
     }
 
-    /// What becomes of it in a file of so many pages. Past the end it stays.
+    /// What becomes of it in a file of a number of pages. Past the end it stays.
     pub fn change_within(
         &mut self,
         alloc: Global,

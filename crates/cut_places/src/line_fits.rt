@@ -1,13 +1,13 @@
 // Whether a line of a file may be read as reads of that file ask. Those of other files are passed over.
 ghost use Rattle.std.specs.Prelude.{◌≡◌, ◌<◌, ◌^◌};
-ghost use Rattle.outcomes.specs.Files.{reads_of};
-ghost use Rattle.outcomes.specs.Pages.{all_agree, all_allow_bad, all_allow_good};
-ghost use Rattle.asked_reads.specs.Fitting.{WordFits, WordsFit, cell_fits};
-ghost use Rattle.asked_reads.specs.Reads.{file_reads_asked};
+ghost use Rattle.sights.specs.Outcomes.Files.{reads_of};
+ghost use Rattle.sights.specs.Outcomes.Pages.{all_agree, all_allow_bad, all_allow_good};
+ghost use Rattle.sights.specs.AskedReads.Fitting.{WordFits, WordsFit, cell_fits};
+ghost use Rattle.sights.specs.AskedReads.Reads.{file_reads_asked};
 
-use asked_reads::FileRead;
 use line_histories::HeldLine;
 use nvm_base::Name;
+use sights::reads_asked::FileRead;
 use sights::{agrees, allows_bad, allows_good};
 
 /// Whether all of them may be answered so where this is line n of the file.

@@ -1,7 +1,7 @@
 // The lines of a file as a cut leaves them, where each is as it was or as a change makes it.
 ghost use Rattle.std.specs.Prelude.{◌≡◌, OnOk, if◌then◌else◌, map};
 ghost use Rattle.nvm_model.specs.Listing.{change_file, is_named};
-ghost use Rattle.asked_reads.specs.Reads.{file_reads_asked};
+ghost use Rattle.sights.specs.AskedReads.Reads.{file_reads_asked};
 ghost use Rattle.cut_places.specs.FileChanges.{lines_of};
 ghost use Rattle.cut_places.specs.FileLeaving.{line_left, lines_left};
 ghost use Rattle.cut_places.specs.FilesState.{name_seen};
@@ -10,11 +10,11 @@ use crate::change::LinesChange;
 use crate::file::FileSeen;
 use crate::line::FileLine;
 use crate::line_fits::line_fits;
-use asked_reads::FileRead;
 use nvm_base::Name;
+use sights::reads_asked::FileRead;
 use std::alloc::{AllocError, Global};
 
-/// Those of the file of that name: each as it is where it fits the reads so.
+/// Leaves the lines of the file of that name: each as it is where it fits the reads so.
 pub(crate) fn leave_files(
     files: &mut Vec<FileSeen>,
     alloc: Global,

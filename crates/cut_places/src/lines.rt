@@ -18,7 +18,7 @@ pub(crate) fn holes(alloc: Global, numbers: &[u32]) -> Result<Vec<FileLine>, All
     Ok(lines)
 }
 
-/// The same lines once more.
+/// Copies of the lines.
 pub(crate) fn copies(alloc: Global, lines: &[FileLine]) -> Result<Vec<FileLine>, AllocError>
     ensures { IfOk result (λ copies. copies.items ≡ lines.now) }
 {
@@ -29,7 +29,7 @@ pub(crate) fn copies(alloc: Global, lines: &[FileLine]) -> Result<Vec<FileLine>,
     Ok(copies)
 }
 
-/// What they are where the file has so many pages.
+/// What they are where the file has its number of pages.
 pub(crate) fn cut(lines: &mut Vec<FileLine>, pages: u32)
     ensures { lines.new.items ≡ map (line_within pages) lines.old.items }
 {
@@ -38,7 +38,7 @@ pub(crate) fn cut(lines: &mut Vec<FileLine>, pages: u32)
     }
 }
 
-/// What becomes of them, in a file of so many pages.
+/// What becomes of them, in a file of a number of pages.
 pub(crate) fn change_all(
     lines: &mut Vec<FileLine>,
     alloc: Global,

@@ -17,7 +17,7 @@ pub(crate) fn find<'a>(files: &'a [FileSeen], name: &Name) -> Option<&'a FileSee
     files.iter().find(|file| file.name == *name)
 }
 
-/// The same files once more.
+/// Copies of the files.
 pub(crate) fn copies(alloc: Global, files: &[FileSeen]) -> Result<Vec<FileSeen>, AllocError>
     ensures { IfOk result (λ copies. copies.items ≡ files.now) }
 {

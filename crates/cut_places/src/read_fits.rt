@@ -3,11 +3,11 @@ ghost use Rattle.std.specs.Prelude.{◌≡◌, ◌<◌, ◌^◌, ◌||◌, IfOk,
 ghost use Rattle.std.specs.List.{list_all};
 ghost use Rattle.nvm_model.specs.Listing.{file_of};
 ghost use Rattle.reply_text.specs.declared.reply.Why.TheVariants.{Missing};
-ghost use Rattle.outcomes.specs.Files.{reads_of};
-ghost use Rattle.outcomes.specs.Pages.{is_refused_for};
-ghost use Rattle.asked_reads.specs.Fitting.{cell_fits};
+ghost use Rattle.sights.specs.Outcomes.Files.{reads_of};
+ghost use Rattle.sights.specs.Outcomes.Pages.{is_refused_for};
+ghost use Rattle.sights.specs.AskedReads.Fitting.{cell_fits};
 ghost use Rattle.cut_places.specs.declared.line.FileLine.{FileLine as LineHeld};
-ghost use Rattle.asked_reads.specs.Reads.{file_reads_asked, page_read, page_reply};
+ghost use Rattle.sights.specs.AskedReads.Reads.{file_reads_asked, page_read, page_reply};
 ghost use Rattle.cut_places.specs.FileChanges.{lines_of};
 ghost use Rattle.cut_places.specs.FileFitting.{either_fits, looks_at, now_fits, read_passes, seen_pass};
 ghost use Rattle.cut_places.specs.FilesState.{name_seen};
@@ -17,9 +17,9 @@ use crate::file::FileSeen;
 use crate::line::FileLine;
 use crate::line_fits::line_fits;
 use crate::listing::find;
-use asked_reads::{FileRead, PageRead, PageReply};
 use nvm_base::{Name, PAGE};
 use reply_text::Why;
+use sights::reads_asked::{FileRead, PageRead, PageReply};
 use sights::{is_reply_of_bytes, touches};
 use std::alloc::{AllocError, Global};
 
@@ -36,7 +36,7 @@ pub(crate) fn read_fits(files: &[FileSeen], reads: &[FileRead], read: &FileRead)
     }
 }
 
-/// The same, where a line of the file of that name may have changed or not.
+/// Whether reads fit, where each line of the file of that name may have changed or not.
 pub(crate) fn read_fits_either(
     alloc: Global,
     files: &[FileSeen],

@@ -8,8 +8,8 @@ ghost use Rattle.cut_places.specs.Sights.{files_once_done, shows, shows_inside};
 ghost use Rattle.sights.specs.Units.{block_once_done, line_once_done};
 
 use crate::files::FilesSeen;
-use asked_reads::Question;
 use script_text::Command;
+use sights::reads_asked::Question;
 use sights::{BlockSeen, LineSeen, Way, all_fit, change_all, fit_inside};
 use std::alloc::AllocError;
 use word_tables::Geometry;
@@ -52,7 +52,7 @@ impl Sight {
         )
     }
 
-    /// What is seen once the command is done.
+    /// Sight once the command is done.
     pub fn change(&mut self, geometry: Geometry, command: &Command) -> Result<(), AllocError>
         requires valid { IsValid geometry }
         requires bounded { InBounds (action_of command.now) }

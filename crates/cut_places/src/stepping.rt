@@ -3,17 +3,17 @@ ghost use Rattle.std.specs.Prelude.{◌≡◌, true, IfOk, IfSome, IsTrue, List,
 ghost use Rattle.script_text.specs.Action.{action_of};
 ghost use Rattle.script_text.specs.Parsing.{InBounds};
 ghost use Rattle.word_tables.specs.Bounds.{IsValid};
-ghost use Rattle.machine_host.specs.Machine.{Machine};
-ghost use Rattle.machine_host.specs.Commands.{refusal};
-ghost use Rattle.outcomes.specs.Seen.{Seen};
-ghost use Rattle.outcomes.specs.Stops.{is_of_program};
-ghost use Rattle.asked_reads.specs.Asking.{IsLook, may_be_replies};
+ghost use Rattle.sights.specs.MachineModel.Machine.{Machine};
+ghost use Rattle.sights.specs.MachineModel.Commands.{refusal};
+ghost use Rattle.sights.specs.Outcomes.Seen.{Seen};
+ghost use Rattle.sights.specs.Outcomes.Stops.{is_of_program};
+ghost use Rattle.sights.specs.AskedReads.Asking.{IsLook, may_be_replies};
 ghost use Rattle.cut_places.specs.Following.{Explores, Follows, IsWhole, IsWithin, Passes, ShowsIn};
 
 use crate::place::CutPlace;
 use crate::sight::Sight;
-use asked_reads::Question;
 use script_text::Command;
+use sights::reads_asked::Question;
 use std::alloc::AllocError;
 use word_tables::Geometry;
 

@@ -14,8 +14,8 @@ use Rattle.nvm_model.proofs.MediaLemmas.{cell_of-change}
 use Rattle.nvm_model.proofs.NumberedLemmas.{slice_get-map_from}
 use Rattle.nvm_model.proofs.PageLemmas.{cell_of-put}
 use Rattle.nvm_model.proofs.ResizeLemmas.{replicate-item}
-use Rattle.machine_host.specs.OnFileErrors.{marked_in}
-use Rattle.machine_host.specs.OnPages.{pages_named, stored_in}
+use Rattle.machine_model.specs.OnFileErrors.{marked_in}
+use Rattle.machine_model.specs.OnPages.{pages_named, stored_in}
 use Rattle.durable.proofs.NamedPageLemmas.{named-change, named-own}
 
 -- a bad line is one of the pages'

@@ -16,10 +16,10 @@ use Rattle.nvm_model.specs.Storage.Block.{Absent, Scarred, Data}
 use Rattle.block_device.specs.Refusals.{block_spans}
 use Rattle.script_text.specs.Action.{Action}
 use Rattle.script_text.specs.Action.Action.{BWrite, BAtomic, BMulti, BDiscard, BDiscardIf, BScar}
-use Rattle.machine_host.specs.OnBlocks.{blocks_from}
-use Rattle.machine_host.specs.Commands.{LeavesBlocks, meaning}
-use Rattle.machine_host.specs.Meaning.{BlocksLeft}
-use Rattle.machine_host.specs.Meaning.BlocksLeft.{Same, Either, Mixed}
+use Rattle.machine_model.specs.OnBlocks.{blocks_from}
+use Rattle.machine_model.specs.Commands.{LeavesBlocks, meaning}
+use Rattle.machine_model.specs.Meaning.{BlocksLeft}
+use Rattle.machine_model.specs.Meaning.BlocksLeft.{Same, Either, Mixed}
 use Rattle.durable.specs.Place.Place.{of_blocks}
 use Rattle.durable.specs.Touching.{changes}
 use Rattle.durable.specs.Place.{block_has}

@@ -12,18 +12,18 @@ use Rattle.nvm_model.specs.Storage.{File, Mapping}
 use Rattle.nvm_model.proofs.MediaLemmas.{cell_of-changed}
 use Rattle.file_actions.specs.Refusals.{all_bytes}
 use Rattle.file_actions.specs.Rewriting.{durable_line, rewritten, rewritten_page, touches_any_page}
-use Rattle.scrub.specs.Refusals.{line_refusal}
+use Rattle.marked_lines.specs.Refusals.{line_refusal}
 use Rattle.pm_volume.specs.Refusals.{physical_offset}
 use Rattle.script_text.specs.Action.{Action}
 use Rattle.script_text.specs.Action.Action.{VSync, VPSync, FAtomic, FMulti, FSync, Sync, Flush, FlushVerify, DeepFlush, ClearFile, ClearVolume}
-use Rattle.machine_host.specs.declared.look.Look.TheVariants.{Once, Again}
-use Rattle.machine_host.specs.Machine.{Machine}
-use Rattle.machine_host.specs.Commands.{refusal}
-use Rattle.machine_host.specs.OnFileErrors.{marked_in}
-use Rattle.machine_host.specs.OnFileActions.{written_together}
-use Rattle.machine_host.specs.OnFlushes.{all_moved, synced_in}
-use Rattle.machine_host.specs.OnPages.{pages_named}
-use Rattle.machine_host.specs.OnVolume.{persist_at}
+use Rattle.machine_model.specs.declared.look.Look.TheVariants.{Once, Again}
+use Rattle.machine_model.specs.Machine.{Machine}
+use Rattle.machine_model.specs.Commands.{refusal}
+use Rattle.machine_model.specs.OnFileErrors.{marked_in}
+use Rattle.machine_model.specs.OnFileActions.{written_together}
+use Rattle.machine_model.specs.OnFlushes.{all_moved, synced_in}
+use Rattle.machine_model.specs.OnPages.{pages_named}
+use Rattle.machine_model.specs.OnVolume.{persist_at}
 use Rattle.durable.specs.Place.{Place, byte_at_place, is_line_present, line_has}
 use Rattle.durable.specs.Place.Place.{of_volume, of_blocks, of_file}
 use Rattle.durable.specs.Region.{all_files, flushed_by, flushed_lines, flushed_through, holds, nothing, touched_lines_at}

@@ -15,10 +15,10 @@ use Rattle.block_map.specs.declared.state.BlockState.TheVariants as state
 use Rattle.block_device.specs.Reading.{block_read, blocks_read, line_read, states_read}
 use Rattle.script_text.specs.Action.{Action}
 use Rattle.script_text.specs.Action.Action.{BWrite, BAtomic, BMulti, BDiscard, BDiscardIf, BScar, PoisonBlock}
-use Rattle.machine_host.specs.Commands.{LeavesBlocks, MayLeaveBlocks, meaning}
-use Rattle.machine_host.specs.Meaning.{BlocksLeft}
-use Rattle.machine_host.specs.Meaning.BlocksLeft.{Same, Either, Mixed}
-use Rattle.machine_host.specs.OnBlocks.{blocks_from}
+use Rattle.machine_model.specs.Commands.{LeavesBlocks, MayLeaveBlocks, meaning}
+use Rattle.machine_model.specs.Meaning.{BlocksLeft}
+use Rattle.machine_model.specs.Meaning.BlocksLeft.{Same, Either, Mixed}
+use Rattle.machine_model.specs.OnBlocks.{blocks_from}
 use Rattle.durable.specs.Durable.{HasEightLines, HaveEightLines}
 use Rattle.durable.proofs.StepKinds.{blocks_after}
 

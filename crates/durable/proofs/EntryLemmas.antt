@@ -25,14 +25,14 @@ use Rattle.file_actions.specs.Refusals.{all_bytes}
 use Rattle.file_actions.specs.Rewriting.{rewritten}
 use Rattle.script_text.specs.Action.{Action}
 use Rattle.script_text.specs.Action.Action.{Create, Delete, Rename, Resize, FWrite, FAtomic, FMulti, FDiscard, FSync, Load, Store, Sync, Flush, FlushVerify, DeepFlush, PoisonFile, WeakenFile, ClearFile}
-use Rattle.machine_host.specs.Commands.{meaning}
-use Rattle.machine_host.specs.declared.look.Look.{Look}
-use Rattle.machine_host.specs.declared.look.Look.TheVariants.{Once, Again}
-use Rattle.machine_host.specs.OnFileErrors.{marked_in}
-use Rattle.machine_host.specs.OnFileActions.{discarded_in, written_together}
-use Rattle.machine_host.specs.OnFlushes.{all_moved, flush_file, flush_through, flush_with, nothing_done, synced_in}
-use Rattle.machine_host.specs.OnMappings.{load_through, read_copy, store_through, write_copy}
-use Rattle.machine_host.specs.OnPages.{fread, fwrite, stored_in}
+use Rattle.machine_model.specs.Commands.{meaning}
+use Rattle.machine_model.specs.declared.look.Look.{Look}
+use Rattle.machine_model.specs.declared.look.Look.TheVariants.{Once, Again}
+use Rattle.machine_model.specs.OnFileErrors.{marked_in}
+use Rattle.machine_model.specs.OnFileActions.{discarded_in, written_together}
+use Rattle.machine_model.specs.OnFlushes.{all_moved, flush_file, flush_through, flush_with, nothing_done, synced_in}
+use Rattle.machine_model.specs.OnMappings.{load_through, read_copy, store_through, write_copy}
+use Rattle.machine_model.specs.OnPages.{fread, fwrite, stored_in}
 use Rattle.nvm_model.specs.Mappings.{is_shared, mapping_of}
 use Rattle.durable.specs.Files.{changes_files}
 use Rattle.durable.proofs.RewrittenLemmas.{length-rewritten}

@@ -16,17 +16,17 @@ use Rattle.nvm_model.specs.Touched.{bad_touched, is_bad_touched, next_bad_touche
 use Rattle.nvm_model.proofs.MediaLemmas.{at_line-beside, at_line-here}
 use Rattle.nvm_model.proofs.NextLemmas.{IsLowestFrom, next-lowest}
 use Rattle.nvm_model.proofs.SeveralLemmas.{cell_of-spans}
-use Rattle.scrub.specs.Refusals.{cell_refusal}
+use Rattle.marked_lines.specs.Refusals.{cell_refusal}
 use Rattle.reply_text.specs.Answer.{Answer}
 use Rattle.reply_text.specs.Answer.Answer.{Done, Happened}
-use Rattle.machine_host.specs.declared.look.Look.{Look}
-use Rattle.machine_host.specs.declared.look.Look.TheVariants.{Once, Again}
-use Rattle.machine_host.specs.Interrupted.{interrupted_answer}
-use Rattle.machine_host.specs.Machine.{Machine}
-use Rattle.machine_host.specs.OnEvents.{line_event}
-use Rattle.machine_host.specs.OnFileErrors.{with_poisoned}
-use Rattle.machine_host.specs.OnFlushes.{flushed_answer, second_look, synced_in, with_synced}
-use Rattle.machine_host.specs.OnPages.{pages_named}
+use Rattle.machine_model.specs.declared.look.Look.{Look}
+use Rattle.machine_model.specs.declared.look.Look.TheVariants.{Once, Again}
+use Rattle.machine_model.specs.Interrupted.{interrupted_answer}
+use Rattle.machine_model.specs.Machine.{Machine}
+use Rattle.machine_model.specs.OnEvents.{line_event}
+use Rattle.machine_model.specs.OnFileErrors.{with_poisoned}
+use Rattle.machine_model.specs.OnFlushes.{flushed_answer, second_look, synced_in, with_synced}
+use Rattle.machine_model.specs.OnPages.{pages_named}
 use Rattle.durable.specs.Events.{AreAll, GoesBad, TellsLines, all_told, told_by}
 use Rattle.durable.proofs.BadLineLemmas.{NoWorse, bad_named, bad_within, other_named, same_no_worse}
 use Rattle.durable.proofs.FileLineLemmas.{named-marked_at}

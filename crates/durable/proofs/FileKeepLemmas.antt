@@ -21,12 +21,12 @@ use Rattle.file_actions.specs.Rewriting.{first_lost, rewritten}
 use Rattle.file_journal.specs.Standing.{KeepsFiles, files_read}
 use Rattle.script_text.specs.Action.{Action}
 use Rattle.script_text.specs.Action.Action.{Create, Delete, Rename, Resize, FWrite, FAtomic, FMulti, FDiscard, FSync, Load, Store, Sync, Flush, FlushVerify, DeepFlush, PoisonFile, WeakenFile, ClearFile}
-use Rattle.machine_host.specs.Commands.{LeavesFiles, MayLeaveFiles, meaning}
-use Rattle.machine_host.specs.Meaning.FilesLeft.{Unchanged}
-use Rattle.machine_host.specs.declared.look.Look.TheVariants.{Once, Again}
-use Rattle.machine_host.specs.OnFileActions.{written_together}
-use Rattle.machine_host.specs.OnMappings.{load_through, read_copy}
-use Rattle.machine_host.specs.OnPages.{fread, pages_named, stored_in}
+use Rattle.machine_model.specs.Commands.{LeavesFiles, MayLeaveFiles, meaning}
+use Rattle.machine_model.specs.Meaning.FilesLeft.{Unchanged}
+use Rattle.machine_model.specs.declared.look.Look.TheVariants.{Once, Again}
+use Rattle.machine_model.specs.OnFileActions.{written_together}
+use Rattle.machine_model.specs.OnMappings.{load_through, read_copy}
+use Rattle.machine_model.specs.OnPages.{fread, pages_named, stored_in}
 use Rattle.durable.specs.Place.Place.{of_file}
 use Rattle.durable.proofs.LineLemmas.{MayBe}
 use Rattle.durable.proofs.NamedPageLemmas.{named-change, named-left, named-own, named-put, named-read, named-rename, named-without}

@@ -12,12 +12,12 @@ use Rattle.script_text.specs.Action.{Action}
 use Rattle.script_text.specs.Action.Action.{ListFiles}
 use Rattle.script_text.specs.Script.{Input}
 use Rattle.script_text.specs.Script.Input.{Skipped, Malformed, Overlong, Asked}
-use Rattle.machine_host.specs.declared.mode.Mode.TheVariants.{On}
-use Rattle.machine_host.specs.Machine.{Machine}
-use Rattle.machine_host.specs.Commands.{MayLeaveFiles, meaning, refusal, unless_refused, LeavesFiles as LeftFiles}
-use Rattle.machine_host.specs.Meaning.{FilesLeft}
-use Rattle.machine_host.specs.Meaning.FilesLeft.{Unchanged, OldOrNew, StoredInPart, SyncedInPart}
-use Rattle.machine_host.specs.Run.{Hears, Run, Takes, Transcript}
+use Rattle.machine_model.specs.declared.mode.Mode.TheVariants.{On}
+use Rattle.machine_model.specs.Machine.{Machine}
+use Rattle.machine_model.specs.Commands.{MayLeaveFiles, meaning, refusal, unless_refused, LeavesFiles as LeftFiles}
+use Rattle.machine_model.specs.Meaning.{FilesLeft}
+use Rattle.machine_model.specs.Meaning.FilesLeft.{Unchanged, OldOrNew, StoredInPart, SyncedInPart}
+use Rattle.machine_model.specs.Run.{Hears, Run, Takes, Transcript}
 use Rattle.durable.specs.Touching.{is_begun}
 use Rattle.durable.specs.Durable.{Does, HasNothing, IsComplete, IsDone, NoneBegun}
 use Rattle.durable.specs.Files.{BreaksOff, FilesLast, FilesSettle, FilesThrough, IsStopped, LeavesFiles, changes_files, files_after, files_listed}

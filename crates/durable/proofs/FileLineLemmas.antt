@@ -11,10 +11,10 @@ use Rattle.nvm_model.specs.Touched.{persist_spans, touches_any}
 use Rattle.nvm_model.proofs.MediaLemmas.{cell_of-change, cell_of-changed}
 use Rattle.nvm_model.proofs.PageLemmas.{cell_of-persist, presence_of-persist}
 use Rattle.nvm_model.proofs.SeveralLemmas.{cell_of-spans, presence_of-spans}
-use Rattle.machine_host.specs.declared.look.Look.{Look}
-use Rattle.machine_host.specs.OnFileErrors.{marked_in}
-use Rattle.machine_host.specs.OnFlushes.{all_moved, flush_file, flush_through, flush_with, nothing_done, synced_in}
-use Rattle.machine_host.specs.OnPages.{pages_named}
+use Rattle.machine_model.specs.declared.look.Look.{Look}
+use Rattle.machine_model.specs.OnFileErrors.{marked_in}
+use Rattle.machine_model.specs.OnFlushes.{all_moved, flush_file, flush_through, flush_with, nothing_done, synced_in}
+use Rattle.machine_model.specs.OnPages.{pages_named}
 use Rattle.durable.specs.Region.{flushed_by, flushed_lines, flushed_through, nothing}
 use Rattle.durable.proofs.NamedPageLemmas.{named-own}
 

@@ -23,16 +23,16 @@ use Rattle.file_actions.specs.Refusals.{all_bytes}
 use Rattle.file_actions.specs.Rewriting.{rewritten}
 use Rattle.script_text.specs.Action.{Action}
 use Rattle.script_text.specs.Action.Action.{Create, Delete, Rename, Resize, FWrite, FAtomic, FMulti, FDiscard, FSync, Load, Store, Sync, Flush, FlushVerify, DeepFlush, PoisonFile, WeakenFile, ClearFile}
-use Rattle.machine_host.specs.Commands.{LeavesFiles, MayLeaveFiles, meaning}
-use Rattle.machine_host.specs.Meaning.{FilesLeft}
-use Rattle.machine_host.specs.Meaning.FilesLeft.{Unchanged, OldOrNew, StoredInPart, SyncedInPart}
-use Rattle.machine_host.specs.Meaning.VolumeLeft.{PartStored}
-use Rattle.machine_host.specs.declared.look.Look.{Look}
-use Rattle.machine_host.specs.declared.look.Look.TheVariants.{Once, Again}
-use Rattle.machine_host.specs.OnFileErrors.{marked_in}
-use Rattle.machine_host.specs.OnFlushes.{all_moved, flush_file, flush_through, flush_with, nothing_done, synced_in}
-use Rattle.machine_host.specs.OnMappings.{store_through, write_copy}
-use Rattle.machine_host.specs.OnPages.{fwrite, pages_named, stored_in}
+use Rattle.machine_model.specs.Commands.{LeavesFiles, MayLeaveFiles, meaning}
+use Rattle.machine_model.specs.Meaning.{FilesLeft}
+use Rattle.machine_model.specs.Meaning.FilesLeft.{Unchanged, OldOrNew, StoredInPart, SyncedInPart}
+use Rattle.machine_model.specs.Meaning.VolumeLeft.{PartStored}
+use Rattle.machine_model.specs.declared.look.Look.{Look}
+use Rattle.machine_model.specs.declared.look.Look.TheVariants.{Once, Again}
+use Rattle.machine_model.specs.OnFileErrors.{marked_in}
+use Rattle.machine_model.specs.OnFlushes.{all_moved, flush_file, flush_through, flush_with, nothing_done, synced_in}
+use Rattle.machine_model.specs.OnMappings.{store_through, write_copy}
+use Rattle.machine_model.specs.OnPages.{fwrite, pages_named, stored_in}
 use Rattle.durable.specs.Durable.{AllHaveLines, HaveLines, IsLineThere}
 use Rattle.durable.proofs.FileKeepLemmas.{load-leaves}
 use Rattle.durable.proofs.PresenceLemmas.{has_lines, line_in, page_present}

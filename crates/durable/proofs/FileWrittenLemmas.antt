@@ -12,10 +12,10 @@ use Rattle.file_pages.specs.Refusals.{bytes_refusal}
 use Rattle.script_text.specs.Action.{Action}
 use Rattle.script_text.specs.Action.Action.{ClearFile, FWrite}
 use Rattle.script_text.specs.Script.Input.{Asked}
-use Rattle.machine_host.specs.Commands.{refusal}
-use Rattle.machine_host.specs.Machine.{Machine}
-use Rattle.machine_host.specs.OnFileErrors.{marked_in}
-use Rattle.machine_host.specs.OnPages.{page_answer, pages_named, stored_in}
+use Rattle.machine_model.specs.Commands.{refusal}
+use Rattle.machine_model.specs.Machine.{Machine}
+use Rattle.machine_model.specs.OnFileErrors.{marked_in}
+use Rattle.machine_model.specs.OnPages.{page_answer, pages_named, stored_in}
 use Rattle.durable.specs.Place.{byte_at_place, is_weak_line, line_has}
 use Rattle.durable.specs.Place.Place.{of_file}
 use Rattle.durable.specs.Touching.{changes, is_made_durable, wears}

@@ -11,11 +11,11 @@ use Rattle.nvm_model.specs.Page.{Page}
 use Rattle.nvm_model.specs.Mappings.{is_shared, mapping_of}
 use Rattle.nvm_model.specs.Storage.{File, Mapping}
 use Rattle.nvm_model.specs.Touched.{persist_spans}
-use Rattle.machine_host.specs.Commands.{LeavesFiles}
-use Rattle.machine_host.specs.Meaning.FilesLeft.{Unchanged}
-use Rattle.machine_host.specs.declared.look.Look.{Look}
-use Rattle.machine_host.specs.OnFlushes.{all_moved, flush_file, flush_through, flush_with, nothing_done}
-use Rattle.machine_host.specs.OnPages.{pages_named}
+use Rattle.machine_model.specs.Commands.{LeavesFiles}
+use Rattle.machine_model.specs.Meaning.FilesLeft.{Unchanged}
+use Rattle.machine_model.specs.declared.look.Look.{Look}
+use Rattle.machine_model.specs.OnFlushes.{all_moved, flush_file, flush_through, flush_with, nothing_done}
+use Rattle.machine_model.specs.OnPages.{pages_named}
 use Rattle.durable.proofs.LineLemmas.{MayBe}
 use Rattle.durable.proofs.NamedPageLemmas.{named-change, named-left, named-own}
 use Rattle.durable.proofs.VolumeLemmas.{VolumeKeeps, keeps-may_spans, keeps-spans}

@@ -14,13 +14,13 @@ use Rattle.reply_text.specs.Answer.Answer.{DeviceFailed, PowerLost, DoneBad, Sto
 use Rattle.script_text.specs.Action.{Action}
 use Rattle.script_text.specs.Action.Action.{Recover, Restart}
 use Rattle.script_text.specs.Script.Input.{Asked}
-use Rattle.machine_host.specs.Commands.{meaning, refusal, unless_refused}
-use Rattle.machine_host.specs.Interrupted.{interrupted_answer, interrupted_mode}
-use Rattle.machine_host.specs.Lines.{bad_metadata}
-use Rattle.machine_host.specs.Machine.{Machine}
-use Rattle.machine_host.specs.Recovering.{RecoversTo}
-use Rattle.machine_host.specs.Restarting.{read_with, reading, restarted}
-use Rattle.machine_host.specs.Run.{Hears, Takes, Transcript}
+use Rattle.machine_model.specs.Commands.{meaning, refusal, unless_refused}
+use Rattle.machine_model.specs.Interrupted.{interrupted_answer, interrupted_mode}
+use Rattle.machine_model.specs.Lines.{bad_metadata}
+use Rattle.machine_model.specs.Machine.{Machine}
+use Rattle.machine_model.specs.Recovering.{RecoversTo}
+use Rattle.machine_model.specs.Restarting.{read_with, reading, restarted}
+use Rattle.machine_model.specs.Run.{Hears, Takes, Transcript}
 use Rattle.durable.specs.Events.{AreAll, AreMounted, AreOfFile, AreOfFiles, FindsAnew, Mounts}
 use Rattle.durable.specs.Files.{IsStopped}
 use Rattle.durable.proofs.BadLineLemmas.{bad_within}

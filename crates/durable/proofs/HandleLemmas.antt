@@ -4,16 +4,16 @@ use Rattle.nvm_base.specs.declared.files.Kind.{Kind}
 use Rattle.nvm_base.specs.declared.units.Span.{Span}
 use Rattle.nvm_model.specs.Mappings.{is_shared, mapping_of}
 use Rattle.nvm_model.specs.Storage.{Mapping}
-use Rattle.machine_host.specs.declared.look.Look.{Look}
-use Rattle.machine_host.specs.declared.look.Look.TheVariants.{Once, Again}
+use Rattle.machine_model.specs.declared.look.Look.{Look}
+use Rattle.machine_model.specs.declared.look.Look.TheVariants.{Once, Again}
 use Rattle.reply_text.specs.Answer.Answer.{Done, Handle}
 use Rattle.script_text.specs.Action.Action.{Load, Map, Store}
-use Rattle.machine_host.specs.Commands.{meaning}
-use Rattle.machine_host.specs.Machine.{Fate, Machine}
-use Rattle.machine_host.specs.Machine.Fate.{Gives, Works}
-use Rattle.machine_host.specs.OnFlushes.{all_moved, flush_file, flush_through, flush_with, nothing_done, second_look}
-use Rattle.machine_host.specs.OnMappings.{load_through, read_copy, store_through, with_mapping, write_copy}
-use Rattle.machine_host.specs.OnPages.{fread, fwrite}
+use Rattle.machine_model.specs.Commands.{meaning}
+use Rattle.machine_model.specs.Machine.{Fate, Machine}
+use Rattle.machine_model.specs.Machine.Fate.{Gives, Works}
+use Rattle.machine_model.specs.OnFlushes.{all_moved, flush_file, flush_through, flush_with, nothing_done, second_look}
+use Rattle.machine_model.specs.OnMappings.{load_through, read_copy, store_through, with_mapping, write_copy}
+use Rattle.machine_model.specs.OnPages.{fread, fwrite}
 use Rattle.durable.specs.Durable.{IsDone}
 
 module _ (P : Fate → Type 0) (h : Machine) where

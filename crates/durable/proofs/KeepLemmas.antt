@@ -4,7 +4,7 @@ use Rattle.std.proofs.lemmas.Bool.{both_ways, eq-eqb, eqb-false}
 use Rattle.std.proofs.lemmas.Bool.Decides.{nat_tests}
 use Rattle.line_words.specs.declared.interruption.Interruption.{Interruption}
 use Rattle.line_words.specs.declared.interruption.Interruption.TheVariants.{Failed, PowerLost as Lost}
-use Rattle.machine_host.specs.Interrupted.{interrupted_answer}
+use Rattle.machine_model.specs.Interrupted.{interrupted_answer}
 use Rattle.nvm_model.specs.Blocks.{nth}
 use Rattle.nvm_model.specs.Cell.{touches}
 use Rattle.nvm_model.specs.Page.{Page}
@@ -12,11 +12,11 @@ use Rattle.nvm_model.specs.Storage.{Block}
 use Rattle.reply_text.specs.Answer.{Answer}
 use Rattle.script_text.specs.Action.{Action}
 use Rattle.script_text.specs.Action.Action.{VStore, VSync, VPSync, VDiscard, VDiscardIf, PoisonBlock, PoisonVolume, WeakenVolume, ClearVolume}
-use Rattle.machine_host.specs.declared.mode.Mode.TheVariants.{On, Off}
-use Rattle.machine_host.specs.Machine.{Machine}
-use Rattle.machine_host.specs.Commands.{LeavesVolume, MayLeaveBlocks, MayLeaveVolume, meaning}
-use Rattle.machine_host.specs.OnPages.{pages_named}
-use Rattle.machine_host.specs.OnVolume.{part_synced_at, persist_at}
+use Rattle.machine_model.specs.declared.mode.Mode.TheVariants.{On, Off}
+use Rattle.machine_model.specs.Machine.{Machine}
+use Rattle.machine_model.specs.Commands.{LeavesVolume, MayLeaveBlocks, MayLeaveVolume, meaning}
+use Rattle.machine_model.specs.OnPages.{pages_named}
+use Rattle.machine_model.specs.OnVolume.{part_synced_at, persist_at}
 use Rattle.word_tables.specs.declared.geometry.Geometry.{Geometry}
 use Rattle.word_tables.specs.Layout.{volume_line}
 use Rattle.block_device.specs.Reading.{blocks_read}

@@ -9,15 +9,15 @@ use Rattle.script_text.specs.Action.{Action}
 use Rattle.script_text.specs.Action.Action.{PoisonBlock, PoisonFile, PoisonMeta, PoisonVolume, Cut, CutIn, FailIn, Restart, Recover, Attr}
 use Rattle.script_text.specs.Script.{Input}
 use Rattle.script_text.specs.Script.Input.{Skipped, Malformed, Overlong, Asked}
-use Rattle.machine_host.specs.Machine.{Machine}
+use Rattle.machine_model.specs.Machine.{Machine}
 use Rattle.word_tables.specs.declared.geometry.Geometry.{Geometry}
-use Rattle.machine_host.specs.Commands.{meaning, refusal}
-use Rattle.machine_host.specs.Interrupted.{interrupted_answer}
-use Rattle.machine_host.specs.declared.needs.Needs.TheVariants.{Usable}
-use Rattle.machine_host.specs.Run.{Hears, Run, Transcript, followed_by}
-use Rattle.machine_host.specs.declared.mode.Mode.TheVariants.{On, Off}
+use Rattle.machine_model.specs.Commands.{meaning, refusal}
+use Rattle.machine_model.specs.Interrupted.{interrupted_answer}
+use Rattle.machine_model.specs.declared.needs.Needs.TheVariants.{Usable}
+use Rattle.machine_model.specs.Run.{Hears, Run, Transcript, followed_by}
+use Rattle.machine_model.specs.declared.mode.Mode.TheVariants.{On, Off}
 use Rattle.std.specs.Prelude.{◌≢◌}
-use Rattle.machine_host.specs.OnPages.{pages_named}
+use Rattle.machine_model.specs.OnPages.{pages_named}
 use Rattle.durable.proofs.FileThereLemmas.{lines-named}
 use Rattle.durable.proofs.PowerLemmas.{powered_first, powered_heard, powered_rest}
 use Rattle.durable.specs.Place.{Place, byte_at_place}

@@ -11,19 +11,19 @@ use Rattle.nvm_model.specs.Storage.{Block}
 use Rattle.nvm_model.specs.Storage.Block.{Absent, Scarred, Data}
 use Rattle.nvm_model.proofs.LostLemmas.{nth-lost}
 use Rattle.nvm_model.proofs.MediaLemmas.{cell_of-changed}
-use Rattle.scrub.specs.Refusals.{cell_refusal, unit_refusal}
+use Rattle.marked_lines.specs.Refusals.{cell_refusal, unit_refusal}
 use Rattle.reply_text.specs.Answer.{Answer}
 use Rattle.reply_text.specs.Answer.Answer.{Done}
 use Rattle.script_text.specs.Action.{Action}
 use Rattle.script_text.specs.Action.Action.{PoisonBlock, PoisonFile, PoisonVolume, VSync, VPSync, Sync, Flush, FlushVerify, DeepFlush, ClearVolume}
-use Rattle.machine_host.specs.declared.mode.Mode.TheVariants.{On}
-use Rattle.machine_host.specs.Machine.{Machine}
-use Rattle.machine_host.specs.Machine.Fate.{Gives}
-use Rattle.machine_host.specs.Commands.{meaning, refusal, unless_refused}
-use Rattle.machine_host.specs.OnFileErrors.{marked_in, with_poisoned}
-use Rattle.machine_host.specs.OnPages.{pages_named}
-use Rattle.machine_host.specs.OnVolume.{persist_at}
-use Rattle.machine_host.specs.Run.{Takes}
+use Rattle.machine_model.specs.declared.mode.Mode.TheVariants.{On}
+use Rattle.machine_model.specs.Machine.{Machine}
+use Rattle.machine_model.specs.Machine.Fate.{Gives}
+use Rattle.machine_model.specs.Commands.{meaning, refusal, unless_refused}
+use Rattle.machine_model.specs.OnFileErrors.{marked_in, with_poisoned}
+use Rattle.machine_model.specs.OnPages.{pages_named}
+use Rattle.machine_model.specs.OnVolume.{persist_at}
+use Rattle.machine_model.specs.Run.{Takes}
 use Rattle.pm_volume.specs.Refusals.{physical_offset}
 use Rattle.durable.specs.Place.{Place, block_has, byte_at_place, is_weak_at, is_weak_line, line_has}
 use Rattle.durable.specs.Place.Place.{of_volume, of_blocks, of_file}

@@ -9,32 +9,32 @@ use Rattle.reply_text.specs.Answer.Answer.{Done, Stopped as StoppedMeta}
 use Rattle.std.specs.Prelude.{◌≢◌}
 use Rattle.line_words.specs.declared.interruption.Interruption.{Interruption}
 use Rattle.line_words.specs.declared.interruption.Interruption.TheVariants.{Failed, PowerLost as Lost}
-use Rattle.machine_host.specs.Interrupted.{interrupted_answer}
-use Rattle.machine_host.specs.OnVolume.{yes_or_no}
-use Rattle.machine_host.specs.declared.look.Look.{Look}
-use Rattle.machine_host.specs.declared.look.Look.TheVariants.{Once, Again}
-use Rattle.machine_host.specs.OnFlushes.{flushed_answer}
-use Rattle.machine_host.specs.OnEvents.{told_event}
-use Rattle.machine_host.specs.OnPages.{pages_named}
+use Rattle.machine_model.specs.Interrupted.{interrupted_answer}
+use Rattle.machine_model.specs.OnVolume.{yes_or_no}
+use Rattle.machine_model.specs.declared.look.Look.{Look}
+use Rattle.machine_model.specs.declared.look.Look.TheVariants.{Once, Again}
+use Rattle.machine_model.specs.OnFlushes.{flushed_answer}
+use Rattle.machine_model.specs.OnEvents.{told_event}
+use Rattle.machine_model.specs.OnPages.{pages_named}
 use Rattle.nvm_base.specs.declared.units.Span.{Span}
 use Rattle.nvm_model.specs.Page.{Page}
 use Rattle.nvm_model.specs.Storage.{Event}
 use Rattle.nvm_model.specs.Touched.{next_bad_touched, persist_spans}
-use Rattle.machine_host.specs.declared.mode.Mode.TheVariants.{Stopped}
+use Rattle.machine_model.specs.declared.mode.Mode.TheVariants.{Stopped}
 use Rattle.script_text.specs.Action.{Action}
 use Rattle.script_text.specs.Action.Action.{BExists, VRanges, VExists, ListFiles, Load, Map, Sync, Flush, FlushVerify, DeepFlush, NextEvent, CheckFile, PoisonBlock, PoisonVolume, PoisonFile, PoisonMeta, WeakenFile, WeakenVolume, Cut, CutIn, FailIn, Restart, Recover, Attr, Evict, Store, Unmap}
 use Rattle.script_text.specs.Script.{Input}
 use Rattle.script_text.specs.Script.Input.{Skipped, Malformed, Overlong, Asked}
-use Rattle.machine_host.specs.Machine.{Machine, Fate}
-use Rattle.machine_host.specs.Machine.Fate.{Gives, Works, Orders, Cuts, Restarts, Recovers}
-use Rattle.machine_host.specs.Commands.{fate, meaning, refusal, unless_refused}
-use Rattle.machine_host.specs.Lines.{bad_metadata, lowest}
-use Rattle.machine_host.specs.OnMedia.{with_line}
-use Rattle.machine_host.specs.OnAttributes.{told_value}
+use Rattle.machine_model.specs.Machine.{Machine, Fate}
+use Rattle.machine_model.specs.Machine.Fate.{Gives, Works, Orders, Cuts, Restarts, Recovers}
+use Rattle.machine_model.specs.Commands.{fate, meaning, refusal, unless_refused}
+use Rattle.machine_model.specs.Lines.{bad_metadata, lowest}
+use Rattle.machine_model.specs.OnMedia.{with_line}
+use Rattle.machine_model.specs.OnAttributes.{told_value}
 use Rattle.attributes.specs.Attributes.{attribute}
-use Rattle.machine_host.specs.Restarting.{mounted_answer, read_with, reading, restarted}
-use Rattle.machine_host.specs.Recovering.{RecoversTo}
-use Rattle.machine_host.specs.Run.{Hears, Run, Takes, Transcript}
+use Rattle.machine_model.specs.Restarting.{mounted_answer, read_with, reading, restarted}
+use Rattle.machine_model.specs.Recovering.{RecoversTo}
+use Rattle.machine_model.specs.Run.{Hears, Run, Takes, Transcript}
 use Rattle.durable.specs.Place.{Place}
 use Rattle.durable.specs.Place.Place.{of_volume, of_blocks, of_file}
 use Rattle.durable.specs.Touching.{is_begun, unmounts}

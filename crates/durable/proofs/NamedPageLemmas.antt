@@ -14,7 +14,7 @@ use Rattle.nvm_model.specs.Storage.{File}
 use Rattle.file_journal.specs.Files.{UnitFile, files_of, unit_file_name}
 use Rattle.file_journal.specs.Reading.{tables_read}
 use Rattle.file_journal.specs.Standing.{KeepsFile, KeepsFiles, file_read, files_read, line_of_file}
-use Rattle.machine_host.specs.OnPages.{pages_named}
+use Rattle.machine_model.specs.OnPages.{pages_named}
 
 -- the pages of a file, none where there is none
 abbrev pages_in : Option File → List Page

@@ -23,21 +23,21 @@ use Rattle.file_pages.specs.Refusals.{poisoned_at as poisoned_in_file}
 use Rattle.reply_text.specs.declared.reply.Why.{Why}
 use Rattle.reply_text.specs.Answer.{Answer}
 use Rattle.reply_text.specs.Answer.Answer.{PoisonFile, PoisonVolume, Refused, RefusedMeta}
-use Rattle.machine_host.specs.declared.mode.Mode.{Mode}
-use Rattle.machine_host.specs.declared.mode.Mode.TheVariants.{Stopped}
-use Rattle.machine_host.specs.declared.needs.Needs.{Needs}
-use Rattle.machine_host.specs.declared.needs.Needs.TheVariants.{Usable}
-use Rattle.machine_host.specs.Lines.{lowest}
+use Rattle.machine_model.specs.declared.mode.Mode.{Mode}
+use Rattle.machine_model.specs.declared.mode.Mode.TheVariants.{Stopped}
+use Rattle.machine_model.specs.declared.needs.Needs.{Needs}
+use Rattle.machine_model.specs.declared.needs.Needs.TheVariants.{Usable}
+use Rattle.machine_model.specs.Lines.{lowest}
 use Rattle.script_text.specs.Action.{Action}
 use Rattle.script_text.specs.Action.Action.{BRead, FRead, VLoad}
 use Rattle.script_text.specs.Script.Input.{Asked}
-use Rattle.machine_host.specs.Machine.{Machine}
-use Rattle.machine_host.specs.Commands.{early_refusal, meaning, refusal, unless_refused}
-use Rattle.machine_host.specs.Meaning.{Reasons, first_reason, mode_refusal}
-use Rattle.machine_host.specs.OnBlocks.{refusal_answer}
-use Rattle.machine_host.specs.OnPages.{page_answer, pages_named}
-use Rattle.machine_host.specs.OnVolume.{volume_answer}
-use Rattle.machine_host.specs.Run.{Hears, Takes, Transcript}
+use Rattle.machine_model.specs.Machine.{Machine}
+use Rattle.machine_model.specs.Commands.{early_refusal, meaning, refusal, unless_refused}
+use Rattle.machine_model.specs.Meaning.{Reasons, first_reason, mode_refusal}
+use Rattle.machine_model.specs.OnBlocks.{refusal_answer}
+use Rattle.machine_model.specs.OnPages.{page_answer, pages_named}
+use Rattle.machine_model.specs.OnVolume.{volume_answer}
+use Rattle.machine_model.specs.Run.{Hears, Takes, Transcript}
 use Rattle.durable.specs.Place.{block_has, byte_at_place, line_has}
 use Rattle.durable.specs.Place.Place.{of_volume, of_blocks, of_file}
 use Rattle.durable.specs.Naming.{IsLowestBad, IsLowestObstacle, Names, NamesLine, NamesLineOf, NamesObstacle, refused_before}

@@ -10,8 +10,8 @@ use Rattle.reply_text.specs.Answer.{Answer}
 use Rattle.script_text.specs.Action.{Action}
 use Rattle.script_text.specs.Script.{Input}
 use Rattle.script_text.specs.Script.Input.{Skipped, Malformed, Overlong, Asked}
-use Rattle.machine_host.specs.Machine.{Machine}
-use Rattle.machine_host.specs.Run.{Hears, Run, Transcript}
+use Rattle.machine_model.specs.Machine.{Machine}
+use Rattle.machine_model.specs.Run.{Hears, Run, Transcript}
 use Rattle.durable.specs.Events.{Mounts, NoneMounts, TellsInOrder, all_told, is_line_mapped, line_told, live_events, told_by}
 use Rattle.durable.specs.Files.{changes_files}
 use Rattle.durable.proofs.ToldLemmas.{kept, told}

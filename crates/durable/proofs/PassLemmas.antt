@@ -4,8 +4,8 @@ use Rattle.reply_text.specs.Answer.{Answer}
 use Rattle.script_text.specs.Action.{Action}
 use Rattle.script_text.specs.Script.{Input}
 use Rattle.script_text.specs.Script.Input.{Asked}
-use Rattle.machine_host.specs.Machine.{Machine}
-use Rattle.machine_host.specs.Run.{Run, Transcript, followed_by, silence}
+use Rattle.machine_model.specs.Machine.{Machine}
+use Rattle.machine_model.specs.Run.{Run, Transcript, followed_by, silence}
 use Rattle.durable.specs.Place.{Place}
 use Rattle.durable.specs.Durable.{BringBytes, IsComplete, KeepsThrough, Passes}
 use Rattle.durable.proofs.LawLemmas.{finished_durable}

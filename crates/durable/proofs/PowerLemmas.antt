@@ -10,16 +10,16 @@ use Rattle.script_text.specs.Action.{Action}
 use Rattle.script_text.specs.Action.Action.{Cut, DeepFlush, Flush, FlushVerify, Load, Map, Recover, Restart, Store, Sync}
 use Rattle.script_text.specs.Script.{Input}
 use Rattle.script_text.specs.Script.Input.{Skipped, Malformed, Overlong, Asked}
-use Rattle.machine_host.specs.declared.look.Look.TheVariants.{Once, Again}
-use Rattle.machine_host.specs.declared.mode.Mode.TheVariants.{Off}
-use Rattle.machine_host.specs.Machine.{Machine, Fate}
-use Rattle.machine_host.specs.Machine.Fate.{Gives, Works, Orders, Cuts, Restarts, Recovers}
-use Rattle.machine_host.specs.Commands.{meaning, refusal, unless_refused}
-use Rattle.machine_host.specs.Interrupted.{Interrupts, interrupted_answer}
-use Rattle.machine_host.specs.Restarting.{read_with, reading}
-use Rattle.machine_host.specs.Recovering.{RecoversTo}
-use Rattle.machine_host.specs.Lines.{bad_metadata}
-use Rattle.machine_host.specs.Run.{Hears, Takes, Transcript, followed_by}
+use Rattle.machine_model.specs.declared.look.Look.TheVariants.{Once, Again}
+use Rattle.machine_model.specs.declared.mode.Mode.TheVariants.{Off}
+use Rattle.machine_model.specs.Machine.{Machine, Fate}
+use Rattle.machine_model.specs.Machine.Fate.{Gives, Works, Orders, Cuts, Restarts, Recovers}
+use Rattle.machine_model.specs.Commands.{meaning, refusal, unless_refused}
+use Rattle.machine_model.specs.Interrupted.{Interrupts, interrupted_answer}
+use Rattle.machine_model.specs.Restarting.{read_with, reading}
+use Rattle.machine_model.specs.Recovering.{RecoversTo}
+use Rattle.machine_model.specs.Lines.{bad_metadata}
+use Rattle.machine_model.specs.Run.{Hears, Takes, Transcript, followed_by}
 use Rattle.durable.specs.Durable.{LostNone, StaysPowered}
 use Rattle.durable.proofs.HandleLemmas.{of_flush, of_load, of_map, of_store}
 

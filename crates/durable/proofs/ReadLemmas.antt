@@ -20,19 +20,19 @@ use Rattle.reply_text.specs.Answer.{Answer}
 use Rattle.reply_text.specs.Answer.Answer.{Bytes}
 use Rattle.script_text.specs.Action.{Action}
 use Rattle.script_text.specs.Action.Action.{BRead, FRead, VLoad}
-use Rattle.machine_host.specs.Machine.{Machine}
-use Rattle.machine_host.specs.Machine.Fate.{Works}
-use Rattle.machine_host.specs.Commands.{early_refusal, fate, meaning, refusal, unless_refused}
-use Rattle.machine_host.specs.Interrupted.{interrupted_answer}
-use Rattle.machine_host.specs.OnBlocks.{refusal_answer}
-use Rattle.machine_host.specs.OnPages.{pages_named}
-use Rattle.machine_host.specs.Run.{Takes, Transcript}
+use Rattle.machine_model.specs.Machine.{Machine}
+use Rattle.machine_model.specs.Machine.Fate.{Works}
+use Rattle.machine_model.specs.Commands.{early_refusal, fate, meaning, refusal, unless_refused}
+use Rattle.machine_model.specs.Interrupted.{interrupted_answer}
+use Rattle.machine_model.specs.OnBlocks.{refusal_answer}
+use Rattle.machine_model.specs.OnPages.{pages_named}
+use Rattle.machine_model.specs.Run.{Takes, Transcript}
 use Rattle.durable.specs.Place.{Place, block_has, byte_at_place, line_has}
 use Rattle.durable.specs.Place.Place.{of_volume, of_blocks, of_file}
 use Rattle.durable.specs.Naming.{Names, NamesLine, NamesLineOf, NamesObstacle, refused_before}
 use Rattle.durable.specs.Durable.{Has, HasNothing, IsComplete, Reads}
-use Rattle.machine_host.specs.declared.mode.Mode.TheVariants.{On}
-use Rattle.machine_host.specs.declared.needs.Needs.TheVariants.{Usable}
+use Rattle.machine_model.specs.declared.mode.Mode.TheVariants.{On}
+use Rattle.machine_model.specs.declared.needs.Needs.TheVariants.{Usable}
 use Rattle.durable.proofs.LineLemmas.{HasOrLost}
 use Rattle.durable.proofs.RefusalLemmas.{is_on, refused_told, refuses_before}
 use Rattle.durable.proofs.RefusedAnswerLemmas.{Refuses, is_refused, refuses_early}

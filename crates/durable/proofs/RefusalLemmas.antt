@@ -11,30 +11,30 @@ use Rattle.reply_text.specs.Answer.Answer.{PoisonFile as PoisonedFile, Refused}
 use Rattle.reply_text.specs.declared.reply.Why.TheVariants as because
 use Rattle.script_text.specs.Action.{Action}
 use Rattle.script_text.specs.Action.Action.{BRead, BWrite, BAtomic, BMulti, BDiscard, BDiscardIf, BExists, BScar, VLoad, VStore, VSync, VRanges, VPSync, VDiscard, VDiscardIf, VExists, Create, Delete, Rename, Resize, ListFiles, FRead, FWrite, FAtomic, FMulti, FDiscard, FSync, Map, Unmap, Load, Store, Sync, Flush, FlushVerify, DeepFlush, NextEvent, CheckFile, PoisonBlock, PoisonVolume, PoisonFile, PoisonMeta, WeakenFile, WeakenVolume, ClearFile, ClearVolume, Cut, CutIn, FailIn, Restart, Recover, Attr, Evict}
-use Rattle.machine_host.specs.declared.look.Look.{Look}
-use Rattle.machine_host.specs.declared.look.Look.TheVariants.{Once, Again}
-use Rattle.machine_host.specs.declared.mode.Mode.{Mode}
-use Rattle.machine_host.specs.declared.mode.Mode.TheVariants.{On, Off, Unsettled, Stopped}
-use Rattle.machine_host.specs.Machine.{Machine}
-use Rattle.machine_host.specs.Meaning.{Reasons, first_reason, metadata_refusal, mode_refusal, most_refusal, no_reasons, span_refusal}
-use Rattle.machine_host.specs.declared.needs.Needs.TheVariants.{Usable, Unpowered}
-use Rattle.scrub.specs.Refusals.{ScrubRefusal}
-use Rattle.scrub.specs.Refusals.ScrubRefusal.{Range as Beyond}
-use Rattle.machine_host.specs.OnMedia.{line_answer}
-use Rattle.machine_host.specs.OnBlocks.{refusal_answer}
-use Rattle.machine_host.specs.OnVolume.{volume_answer}
-use Rattle.machine_host.specs.OnFiles.{if_exists, if_mapped, if_missing}
-use Rattle.machine_host.specs.OnFlushes.{all_moved, flush_file, flush_through, flush_with, nothing_done, spans_refusal}
-use Rattle.machine_host.specs.OnMappings.{if_full_of_mappings, load_through, read_copy, store_through, within_mapping, write_copy}
-use Rattle.machine_host.specs.OnPages.{fread, fwrite, if_full, pages_named, pages_used}
+use Rattle.machine_model.specs.declared.look.Look.{Look}
+use Rattle.machine_model.specs.declared.look.Look.TheVariants.{Once, Again}
+use Rattle.machine_model.specs.declared.mode.Mode.{Mode}
+use Rattle.machine_model.specs.declared.mode.Mode.TheVariants.{On, Off, Unsettled, Stopped}
+use Rattle.machine_model.specs.Machine.{Machine}
+use Rattle.machine_model.specs.Meaning.{Reasons, first_reason, metadata_refusal, mode_refusal, most_refusal, no_reasons, span_refusal}
+use Rattle.machine_model.specs.declared.needs.Needs.TheVariants.{Usable, Unpowered}
+use Rattle.marked_lines.specs.Refusals.{ScrubRefusal}
+use Rattle.marked_lines.specs.Refusals.ScrubRefusal.{Range as Beyond}
+use Rattle.machine_model.specs.OnMedia.{line_answer}
+use Rattle.machine_model.specs.OnBlocks.{refusal_answer}
+use Rattle.machine_model.specs.OnVolume.{volume_answer}
+use Rattle.machine_model.specs.OnFiles.{if_exists, if_mapped, if_missing}
+use Rattle.machine_model.specs.OnFlushes.{all_moved, flush_file, flush_through, flush_with, nothing_done, spans_refusal}
+use Rattle.machine_model.specs.OnMappings.{if_full_of_mappings, load_through, read_copy, store_through, within_mapping, write_copy}
+use Rattle.machine_model.specs.OnPages.{fread, fwrite, if_full, pages_named, pages_used}
 use Rattle.nvm_model.specs.Mappings.{is_full, is_mapped, is_shared, mapping_of}
 use Rattle.nvm_model.specs.Listing.{file_name, has_file}
 use Rattle.nvm_model.specs.Storage.{Mapping}
 use Rattle.file_actions.specs.Refusals.{ActionRefusal}
-use Rattle.machine_host.specs.OnFileActions.{action_answer}
-use Rattle.machine_host.specs.OnAttributes.{unknown}
+use Rattle.machine_model.specs.OnFileActions.{action_answer}
+use Rattle.machine_model.specs.OnAttributes.{unknown}
 use Rattle.attributes.specs.Attributes.{attribute}
-use Rattle.machine_host.specs.Commands.{meaning, refusal}
+use Rattle.machine_model.specs.Commands.{meaning, refusal}
 use Rattle.durable.specs.Naming.{refused_before}
 use Rattle.durable.proofs.RefusedAnswerLemmas.{Refuses, is_refused, refuses_actions, refuses_blocks, refuses_copy, refuses_first, refuses_line, refuses_metadata, refuses_mode, refuses_obstacle, refuses_pages, refuses_span, refuses_unless, refuses_volume, refuses_where, refuses_why}
 

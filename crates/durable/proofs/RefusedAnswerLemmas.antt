@@ -11,23 +11,23 @@ use Rattle.reply_text.specs.declared.reply.Why.{Why}
 use Rattle.reply_text.specs.Answer.{Answer}
 use Rattle.reply_text.specs.Answer.Answer.{Done, DoneBad, Bytes, Ranges, Files, Handle, Happened, NoEvent, BadLines, Attribute, VerifyFile, Yes, No, Scarred, PoisonBlock as PoisonedBlock, PoisonVolume as PoisonedVolume, PoisonFile as PoisonedFile, DeviceFailed, PowerLost, Stopped as MountStopped, Refused, RefusedMeta}
 use Rattle.script_text.specs.Action.{Action}
-use Rattle.machine_host.specs.declared.mode.Mode.{Mode}
-use Rattle.machine_host.specs.declared.mode.Mode.TheVariants.{On, Off, Unsettled, Stopped}
-use Rattle.machine_host.specs.Meaning.{metadata_refusal, mode_refusal}
-use Rattle.machine_host.specs.declared.needs.Needs.{Needs}
-use Rattle.machine_host.specs.declared.needs.Needs.TheVariants.{Usable, Anytime, Powered, Unpowered, Failed}
-use Rattle.scrub.specs.Refusals.{ScrubRefusal}
-use Rattle.scrub.specs.Refusals.ScrubRefusal.{Range as Beyond, Nothing, NotPoisoned}
-use Rattle.machine_host.specs.OnMedia.{line_answer}
-use Rattle.machine_host.specs.OnBlocks.{refusal_answer}
-use Rattle.machine_host.specs.OnVolume.{volume_answer}
-use Rattle.machine_host.specs.OnPages.{page_answer}
+use Rattle.machine_model.specs.declared.mode.Mode.{Mode}
+use Rattle.machine_model.specs.declared.mode.Mode.TheVariants.{On, Off, Unsettled, Stopped}
+use Rattle.machine_model.specs.Meaning.{metadata_refusal, mode_refusal}
+use Rattle.machine_model.specs.declared.needs.Needs.{Needs}
+use Rattle.machine_model.specs.declared.needs.Needs.TheVariants.{Usable, Anytime, Powered, Unpowered, Failed}
+use Rattle.marked_lines.specs.Refusals.{ScrubRefusal}
+use Rattle.marked_lines.specs.Refusals.ScrubRefusal.{Range as Beyond, Nothing, NotPoisoned}
+use Rattle.machine_model.specs.OnMedia.{line_answer}
+use Rattle.machine_model.specs.OnBlocks.{refusal_answer}
+use Rattle.machine_model.specs.OnVolume.{volume_answer}
+use Rattle.machine_model.specs.OnPages.{page_answer}
 use Rattle.file_pages.specs.Refusals.{PageRefusal}
 use Rattle.file_pages.specs.Refusals.PageRefusal.{Range as NoBytes, Length as NoLength, Full as NoRoom, Meta as NoMeta, Poison as PoisonedLine}
 use Rattle.file_actions.specs.Refusals.{ActionRefusal}
 use Rattle.file_actions.specs.Refusals.ActionRefusal.{Range as OutOfFile, Length as NoneToWrite, Limit as TooMany, Overlap as Shared, Full as NoPages, Meta as BadTables, Poison as LostLine}
-use Rattle.machine_host.specs.OnFileActions.{action_answer}
-use Rattle.machine_host.specs.Commands.{early_refusal, meaning}
+use Rattle.machine_model.specs.OnFileActions.{action_answer}
+use Rattle.machine_model.specs.Commands.{early_refusal, meaning}
 
 -- the answers of refusals
 abbrev pub is_refused : Answer → Bool

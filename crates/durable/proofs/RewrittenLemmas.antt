@@ -18,7 +18,7 @@ use Rattle.nvm_model.proofs.LineLemmas.{byte_spelled}
 use Rattle.nvm_model.proofs.NumberedLemmas.{length-list_from, length-map_from, slice_get-list_from, slice_get-map_from}
 use Rattle.nvm_model.proofs.PageLemmas.{cell_of-discard}
 use Rattle.file_actions.specs.Rewriting.{byte_laid, durable_line, rewritten, rewritten_page, touches_any_page}
-use Rattle.machine_host.specs.OnFileActions.{discarded_in, written_together}
+use Rattle.machine_model.specs.OnFileActions.{discarded_in, written_together}
 use Rattle.durable.specs.Place.{line_has}
 use Rattle.durable.specs.Durable.{HaveLines, IsLineThere}
 use Rattle.durable.proofs.BadLineLemmas.{NoWorse, PagesNoWorse, changed_no_worse}

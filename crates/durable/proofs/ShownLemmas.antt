@@ -12,9 +12,9 @@ use Rattle.nvm_model.specs.Storage.{File}
 use Rattle.nvm_model.proofs.NumberedLemmas.{slice_get-map_from}
 use Rattle.file_actions.specs.Refusals.{together_refusal}
 use Rattle.script_text.specs.Action.Action.{FAtomic, FMulti}
-use Rattle.machine_host.specs.Machine.{Machine}
-use Rattle.machine_host.specs.OnFileActions.{action_answer, discarded_in}
-use Rattle.machine_host.specs.OnPages.{pages_named}
+use Rattle.machine_model.specs.Machine.{Machine}
+use Rattle.machine_model.specs.OnFileActions.{action_answer, discarded_in}
+use Rattle.machine_model.specs.OnPages.{pages_named}
 use Rattle.durable.specs.Place.{byte_at_place}
 use Rattle.durable.specs.Place.Place.{of_file}
 use Rattle.durable.specs.Files.{BreaksOff}

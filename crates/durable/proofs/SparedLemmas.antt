@@ -7,10 +7,10 @@ use Rattle.file_actions.specs.Refusals.ActionRefusal.{Poison}
 use Rattle.file_actions.specs.Rewriting.{first_lost}
 use Rattle.script_text.specs.Action.{Action}
 use Rattle.script_text.specs.Action.Action.{FAtomic, FMulti}
-use Rattle.machine_host.specs.Commands.{refusal}
-use Rattle.machine_host.specs.Machine.{Machine}
-use Rattle.machine_host.specs.OnFileActions.{action_answer}
-use Rattle.machine_host.specs.OnPages.{pages_named}
+use Rattle.machine_model.specs.Commands.{refusal}
+use Rattle.machine_model.specs.Machine.{Machine}
+use Rattle.machine_model.specs.OnFileActions.{action_answer}
+use Rattle.machine_model.specs.OnPages.{pages_named}
 use Rattle.durable.specs.Place.{Place}
 use Rattle.durable.specs.Touching.{changes, may_make_durable, poisons, weakens, wears_out}
 use Rattle.durable.specs.Durable.{BringsBytes}

@@ -16,13 +16,13 @@ use Rattle.file_journal.specs.Standing.{files_read}
 use Rattle.reply_text.specs.Answer.{Answer}
 use Rattle.script_text.specs.Action.{Action}
 use Rattle.script_text.specs.Action.Action.{PoisonBlock, PoisonFile, PoisonVolume, WeakenFile, WeakenVolume}
-use Rattle.machine_host.specs.declared.mode.Mode.TheVariants.{On, Off, Stopped}
-use Rattle.machine_host.specs.declared.needs.Needs.TheVariants.{Usable}
-use Rattle.machine_host.specs.Machine.{Machine}
-use Rattle.machine_host.specs.Commands.{MayLeaveBlocks, MayLeaveFiles, MayLeaveVolume, meaning, refusal}
-use Rattle.machine_host.specs.Interrupted.{interrupted_answer}
-use Rattle.machine_host.specs.OnFileErrors.{marked_in}
-use Rattle.machine_host.specs.Restarting.{MayLeaveStorage}
+use Rattle.machine_model.specs.declared.mode.Mode.TheVariants.{On, Off, Stopped}
+use Rattle.machine_model.specs.declared.needs.Needs.TheVariants.{Usable}
+use Rattle.machine_model.specs.Machine.{Machine}
+use Rattle.machine_model.specs.Commands.{MayLeaveBlocks, MayLeaveFiles, MayLeaveVolume, meaning, refusal}
+use Rattle.machine_model.specs.Interrupted.{interrupted_answer}
+use Rattle.machine_model.specs.OnFileErrors.{marked_in}
+use Rattle.machine_model.specs.Restarting.{MayLeaveStorage}
 use Rattle.durable.specs.Place.{Place}
 use Rattle.durable.specs.Touching.{changes, is_made_durable, may_make_durable, poisons, weakens, wears_out}
 use Rattle.durable.specs.Files.{changes_files}

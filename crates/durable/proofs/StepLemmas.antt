@@ -8,14 +8,14 @@ use Rattle.line_words.specs.declared.interruption.Interruption.TheVariants.{Fail
 use Rattle.reply_text.specs.Answer.{Answer}
 use Rattle.reply_text.specs.Answer.Answer.{Done}
 use Rattle.script_text.specs.Action.{Action}
-use Rattle.machine_host.specs.declared.mode.Mode.TheVariants.{On, Off, Stopped}
-use Rattle.machine_host.specs.Machine.{Machine, Fate}
-use Rattle.machine_host.specs.Machine.Fate.{Gives, Works, Orders, Cuts, Restarts, Recovers}
-use Rattle.machine_host.specs.Commands.{fate, meaning, refusal, unless_refused, while_interrupted}
-use Rattle.machine_host.specs.Interrupted.{Interrupts, interrupted_mode}
-use Rattle.machine_host.specs.Restarting.{RestartMayLeave, mounted_answer, read_with, reading, restarted}
-use Rattle.machine_host.specs.Recovering.{RecoversTo}
-use Rattle.machine_host.specs.Run.{Ends, Hears, Run, Takes, Transcript}
+use Rattle.machine_model.specs.declared.mode.Mode.TheVariants.{On, Off, Stopped}
+use Rattle.machine_model.specs.Machine.{Machine, Fate}
+use Rattle.machine_model.specs.Machine.Fate.{Gives, Works, Orders, Cuts, Restarts, Recovers}
+use Rattle.machine_model.specs.Commands.{fate, meaning, refusal, unless_refused, while_interrupted}
+use Rattle.machine_model.specs.Interrupted.{Interrupts, interrupted_mode}
+use Rattle.machine_model.specs.Restarting.{RestartMayLeave, mounted_answer, read_with, reading, restarted}
+use Rattle.machine_model.specs.Recovering.{RecoversTo}
+use Rattle.machine_model.specs.Run.{Ends, Hears, Run, Takes, Transcript}
 use Rattle.script_text.specs.Script.{Input}
 use Rattle.script_text.specs.Script.Input.{Skipped, Malformed, Overlong, Asked}
 use Rattle.durable.specs.Durable.{HasNothing, IsDone}

@@ -9,22 +9,22 @@ use Rattle.nvm_model.specs.Page.{cell_of}
 use Rattle.nvm_model.specs.Storage.{Event, Mapping}
 use Rattle.nvm_model.specs.Touched.{next_bad_touched}
 use Rattle.file_actions.specs.Refusals.{all_bytes}
-use Rattle.scrub.specs.Refusals.{cell_refusal}
+use Rattle.marked_lines.specs.Refusals.{cell_refusal}
 use Rattle.reply_text.specs.Answer.Answer.{Done, No, PoisonFile as PoisonedFile, Refused, Yes}
 use Rattle.reply_text.specs.declared.reply.Why.TheVariants as because
-use Rattle.machine_host.specs.Meaning.{Reasons, no_reasons}
+use Rattle.machine_model.specs.Meaning.{Reasons, no_reasons}
 use Rattle.script_text.specs.Action.{Action}
 use Rattle.script_text.specs.Action.Action.{BExists, VExists, Create, Delete, Rename, Resize, FWrite, FAtomic, FMulti, FDiscard, FSync, Map, Load, Store, Sync, Flush, FlushVerify, DeepFlush, NextEvent, PoisonFile, WeakenFile, ClearFile, Restart, Recover, Attr}
-use Rattle.machine_host.specs.declared.look.Look.{Look}
-use Rattle.machine_host.specs.declared.look.Look.TheVariants.{Once, Again}
-use Rattle.machine_host.specs.Commands.{meaning, refusal}
-use Rattle.machine_host.specs.Machine.{Fate, Machine}
-use Rattle.machine_host.specs.Machine.Fate.{Gives, Works, Orders, Cuts, Restarts, Recovers}
-use Rattle.machine_host.specs.OnEvents.{told_event}
-use Rattle.machine_host.specs.OnAttributes.{told_value}
+use Rattle.machine_model.specs.declared.look.Look.{Look}
+use Rattle.machine_model.specs.declared.look.Look.TheVariants.{Once, Again}
+use Rattle.machine_model.specs.Commands.{meaning, refusal}
+use Rattle.machine_model.specs.Machine.{Fate, Machine}
+use Rattle.machine_model.specs.Machine.Fate.{Gives, Works, Orders, Cuts, Restarts, Recovers}
+use Rattle.machine_model.specs.OnEvents.{told_event}
+use Rattle.machine_model.specs.OnAttributes.{told_value}
 use Rattle.attributes.specs.Attributes.{attribute}
-use Rattle.machine_host.specs.OnFlushes.{all_moved, flush_file, flush_through, flush_with, nothing_done}
-use Rattle.machine_host.specs.OnPages.{pages_named}
+use Rattle.machine_model.specs.OnFlushes.{all_moved, flush_file, flush_through, flush_with, nothing_done}
+use Rattle.machine_model.specs.OnPages.{pages_named}
 use Rattle.durable.specs.Events.{TellsLines, all_told, told_by}
 use Rattle.durable.specs.Files.{changes_files}
 use Rattle.durable.proofs.BadLineLemmas.{cleared_no_worse, stored_no_worse, weakened_no_worse}

@@ -19,10 +19,10 @@ use Rattle.nvm_model.proofs.MediaLemmas.{cell_of-change, presence_of-change}
 use Rattle.nvm_model.proofs.SeveralLemmas.{cell_of-spans, presence_of-spans}
 use Rattle.script_text.specs.Action.{Action}
 use Rattle.script_text.specs.Action.Action.{VStore, VSync, VPSync, VDiscard, VDiscardIf, PoisonVolume, WeakenVolume, ClearVolume}
-use Rattle.machine_host.specs.Commands.{LeavesVolume, MayLeaveVolume, meaning}
-use Rattle.machine_host.specs.Meaning.{VolumeLeft}
-use Rattle.machine_host.specs.Meaning.VolumeLeft.{Kept as Unchanged, PartStored, PartSynced, AllOrNone, PageByPage}
-use Rattle.machine_host.specs.OnVolume.{persist_at}
+use Rattle.machine_model.specs.Commands.{LeavesVolume, MayLeaveVolume, meaning}
+use Rattle.machine_model.specs.Meaning.{VolumeLeft}
+use Rattle.machine_model.specs.Meaning.VolumeLeft.{Kept as Unchanged, PartStored, PartSynced, AllOrNone, PageByPage}
+use Rattle.machine_model.specs.OnVolume.{persist_at}
 use Rattle.pm_volume.specs.Refusals.{physical_offset}
 use Rattle.durable.specs.Durable.{HaveLines, IsLineThere}
 use Rattle.durable.proofs.PresenceLemmas.{has_lines, line_in, page_present, zero_at}

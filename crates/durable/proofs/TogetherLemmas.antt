@@ -24,9 +24,9 @@ use Rattle.file_actions.specs.Refusals.ActionRefusal.{Limit}
 use Rattle.file_actions.specs.Refusals.{ActionRefusal, extents_refusal, refused_if, together_refusal}
 use Rattle.file_actions.specs.Rewriting.{byte_laid, durable_line, pages_touched, rewritten, touches_any_page}
 use Rattle.script_text.specs.Action.Action.{FAtomic, FMulti}
-use Rattle.machine_host.specs.Machine.{Machine}
-use Rattle.machine_host.specs.OnFileActions.{action_answer, written_together}
-use Rattle.machine_host.specs.OnPages.{pages_named}
+use Rattle.machine_model.specs.Machine.{Machine}
+use Rattle.machine_model.specs.OnFileActions.{action_answer, written_together}
+use Rattle.machine_model.specs.OnPages.{pages_named}
 use Rattle.durable.specs.Place.{byte_at_place, line_has}
 use Rattle.durable.specs.Place.Place.{of_file}
 use Rattle.durable.specs.Durable.{Does, Lasts}

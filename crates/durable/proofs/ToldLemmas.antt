@@ -9,17 +9,17 @@ use Rattle.reply_text.specs.Answer.Answer.{Done}
 use Rattle.script_text.specs.Action.{Action}
 use Rattle.script_text.specs.Action.Action.{NextEvent}
 use Rattle.script_text.specs.Script.Input.{Asked}
-use Rattle.machine_host.specs.Commands.{meaning, refusal, unless_refused, while_interrupted}
-use Rattle.machine_host.specs.Interrupted.{Interrupts, interrupted_answer}
-use Rattle.machine_host.specs.declared.mode.Mode.{Mode}
-use Rattle.machine_host.specs.declared.mode.Mode.TheVariants.{On}
-use Rattle.machine_host.specs.declared.needs.Needs.TheVariants.{Usable}
-use Rattle.machine_host.specs.Meaning.{first_reason, mode_refusal}
-use Rattle.machine_host.specs.Machine.{Fate, Machine, bad_of}
-use Rattle.machine_host.specs.Machine.Fate.{Gives, Works, Orders, Cuts, Restarts, Recovers}
-use Rattle.machine_host.specs.OnEvents.{told_event}
-use Rattle.machine_host.specs.Restarting.{answer_with, mounted_answer, restarted}
-use Rattle.machine_host.specs.Run.{Hears, Takes, Transcript}
+use Rattle.machine_model.specs.Commands.{meaning, refusal, unless_refused, while_interrupted}
+use Rattle.machine_model.specs.Interrupted.{Interrupts, interrupted_answer}
+use Rattle.machine_model.specs.declared.mode.Mode.{Mode}
+use Rattle.machine_model.specs.declared.mode.Mode.TheVariants.{On}
+use Rattle.machine_model.specs.declared.needs.Needs.TheVariants.{Usable}
+use Rattle.machine_model.specs.Meaning.{first_reason, mode_refusal}
+use Rattle.machine_model.specs.Machine.{Fate, Machine, bad_of}
+use Rattle.machine_model.specs.Machine.Fate.{Gives, Works, Orders, Cuts, Restarts, Recovers}
+use Rattle.machine_model.specs.OnEvents.{told_event}
+use Rattle.machine_model.specs.Restarting.{answer_with, mounted_answer, restarted}
+use Rattle.machine_model.specs.Run.{Hears, Takes, Transcript}
 use Rattle.durable.specs.Events.{AreMounted, Mounts, TellsLines, TellsOldest, all_told, told_by}
 use Rattle.durable.specs.Files.{IsStopped, changes_files}
 use Rattle.durable.proofs.EventLemmas.{interrupted_silent, refused_silent, unchanged}

@@ -19,16 +19,16 @@ use Rattle.std.proofs.lemmas.Bool.{both_ways}
 use Rattle.reply_text.specs.Answer.Answer.{Done}
 use Rattle.script_text.specs.Action.Action.{Cut, Restart, VStore}
 use Rattle.script_text.specs.Script.Input.{Asked}
-use Rattle.machine_host.specs.declared.mode.Mode.TheVariants.{On, Off}
-use Rattle.machine_host.specs.Machine.{Machine}
-use Rattle.machine_host.specs.Commands.{refusal, spending}
-use Rattle.machine_host.specs.Restarting.{mounted_answer, read_with, reading, restarted}
-use Rattle.machine_host.specs.Lines.{bad_metadata}
+use Rattle.machine_model.specs.declared.mode.Mode.TheVariants.{On, Off}
+use Rattle.machine_model.specs.Machine.{Machine}
+use Rattle.machine_model.specs.Commands.{refusal, spending}
+use Rattle.machine_model.specs.Restarting.{mounted_answer, read_with, reading, restarted}
+use Rattle.machine_model.specs.Lines.{bad_metadata}
 use Rattle.durable.proofs.RefusalLemmas.{is_on}
 use Rattle.pm_volume.specs.Presence.{presence_read}
 use Rattle.file_journal.specs.Standing.{files_read}
 use Rattle.file_journal.proofs.RestartLemmas.{keeps_files-read}
-use Rattle.machine_host.specs.Run.{Run, Transcript, followed_by, silence, with_cut, with_start}
+use Rattle.machine_model.specs.Run.{Run, Transcript, followed_by, silence, with_cut, with_start}
 use Rattle.durable.specs.Durable.{Does}
 use Rattle.durable.proofs.WrittenLemmas.{works_done}
 

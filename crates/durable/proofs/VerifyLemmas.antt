@@ -19,14 +19,14 @@ use Rattle.reply_text.specs.Answer.Answer.{Done, VerifyFile}
 use Rattle.script_text.specs.Action.{Action}
 use Rattle.script_text.specs.Action.Action.{FlushVerify}
 use Rattle.script_text.specs.Script.Input.{Asked}
-use Rattle.machine_host.specs.declared.look.Look.TheVariants.{Again}
-use Rattle.machine_host.specs.Machine.{Fate, Machine}
-use Rattle.machine_host.specs.Machine.Fate.{Gives}
-use Rattle.machine_host.specs.Commands.{meaning, refusal, unless_refused}
-use Rattle.machine_host.specs.Interrupted.{interrupted_answer}
-use Rattle.machine_host.specs.OnFlushes.{all_moved, flush_file, flush_through, nothing_done, second_look, synced_in}
-use Rattle.machine_host.specs.OnPages.{pages_named}
-use Rattle.machine_host.specs.Run.{Hears, Takes, Transcript}
+use Rattle.machine_model.specs.declared.look.Look.TheVariants.{Again}
+use Rattle.machine_model.specs.Machine.{Fate, Machine}
+use Rattle.machine_model.specs.Machine.Fate.{Gives}
+use Rattle.machine_model.specs.Commands.{meaning, refusal, unless_refused}
+use Rattle.machine_model.specs.Interrupted.{interrupted_answer}
+use Rattle.machine_model.specs.OnFlushes.{all_moved, flush_file, flush_through, nothing_done, second_look, synced_in}
+use Rattle.machine_model.specs.OnPages.{pages_named}
+use Rattle.machine_model.specs.Run.{Hears, Takes, Transcript}
 use Rattle.durable.specs.Place.{byte_at_place, line_has}
 use Rattle.durable.specs.Place.Place.{of_file}
 use Rattle.durable.specs.Region.{flushed_by, flushed_lines, nothing}

@@ -15,24 +15,24 @@ use Rattle.nvm_model.specs.Blocks.{change, change_block, nth, write, write_block
 use Rattle.nvm_model.specs.Storage.{Block}
 use Rattle.nvm_model.specs.Storage.Block.{Absent, Scarred}
 use Rattle.block_device.specs.Reading.{block_read, blocks_read, states_read}
-use Rattle.machine_host.specs.OnBlocks.{blocks_from}
+use Rattle.machine_model.specs.OnBlocks.{blocks_from}
 use Rattle.reply_text.specs.Answer.{Answer}
 use Rattle.script_text.specs.Action.{Action}
 use Rattle.script_text.specs.Action.Action.{BWrite, BAtomic, BMulti, BDiscard, BDiscardIf, BScar, VStore, VSync, VPSync, VDiscard, VDiscardIf, PoisonBlock, PoisonVolume, WeakenVolume, ClearVolume}
 use Rattle.script_text.specs.Script.{Input}
 use Rattle.script_text.specs.Script.Input.{Skipped, Malformed, Overlong, Asked}
-use Rattle.machine_host.specs.Machine.{Machine}
-use Rattle.machine_host.specs.Commands.{LeavesBlocks, LeavesVolume, MayLeaveBlocks, MayLeaveVolume, meaning}
-use Rattle.machine_host.specs.Lines.{bad_metadata}
-use Rattle.machine_host.specs.Meaning.{BlocksLeft, VolumeLeft}
-use Rattle.machine_host.specs.Meaning.BlocksLeft.{Same, Either, Mixed}
-use Rattle.machine_host.specs.Meaning.VolumeLeft.{Kept as Unchanged, PartStored, PartSynced, AllOrNone, PageByPage}
-use Rattle.machine_host.specs.Restarting.{fresh, read_with, reading, stopped_by, zero_image}
-use Rattle.machine_host.specs.declared.mode.Mode.TheVariants.{On, Stopped}
-use Rattle.machine_host.specs.OnVolume.{persist_at}
+use Rattle.machine_model.specs.Machine.{Machine}
+use Rattle.machine_model.specs.Commands.{LeavesBlocks, LeavesVolume, MayLeaveBlocks, MayLeaveVolume, meaning}
+use Rattle.machine_model.specs.Lines.{bad_metadata}
+use Rattle.machine_model.specs.Meaning.{BlocksLeft, VolumeLeft}
+use Rattle.machine_model.specs.Meaning.BlocksLeft.{Same, Either, Mixed}
+use Rattle.machine_model.specs.Meaning.VolumeLeft.{Kept as Unchanged, PartStored, PartSynced, AllOrNone, PageByPage}
+use Rattle.machine_model.specs.Restarting.{fresh, read_with, reading, stopped_by, zero_image}
+use Rattle.machine_model.specs.declared.mode.Mode.TheVariants.{On, Stopped}
+use Rattle.machine_model.specs.OnVolume.{persist_at}
 use Rattle.pm_volume.specs.Presence.{presence_read, words_read}
 use Rattle.pm_volume.specs.Refusals.{physical_offset}
-use Rattle.machine_host.specs.Run.{Hears, Run, Transcript}
+use Rattle.machine_model.specs.Run.{Hears, Run, Transcript}
 use Rattle.durable.specs.Durable.{AllHaveLines, HasEightLines, HasNothing, HaveEightLines, HaveLines, IsComplete, IsCounted}
 use Rattle.durable.proofs.EightLemmas.{eight-altered, eight-left, eight-read}
 use Rattle.durable.proofs.ThereLemmas.{lines-altered, lines-left, lines-read}

@@ -19,13 +19,13 @@ use Rattle.script_text.specs.Action.{Action}
 use Rattle.script_text.specs.Action.Action.{Recover, Restart}
 use Rattle.script_text.specs.Script.{Input}
 use Rattle.script_text.specs.Script.Input.{Skipped, Malformed, Overlong, Asked}
-use Rattle.machine_host.specs.Commands.{MayLeaveFiles, meaning, refusal, unless_refused}
+use Rattle.machine_model.specs.Commands.{MayLeaveFiles, meaning, refusal, unless_refused}
 use Rattle.std.specs.Prelude.{◌≢◌}
-use Rattle.machine_host.specs.declared.mode.Mode.TheVariants.{On}
-use Rattle.machine_host.specs.Machine.{Machine}
-use Rattle.machine_host.specs.Machine.Fate.{Works}
-use Rattle.machine_host.specs.OnPages.{pages_named}
-use Rattle.machine_host.specs.Run.{Hears, Run, Takes, Transcript}
+use Rattle.machine_model.specs.declared.mode.Mode.TheVariants.{On}
+use Rattle.machine_model.specs.Machine.{Machine}
+use Rattle.machine_model.specs.Machine.Fate.{Works}
+use Rattle.machine_model.specs.OnPages.{pages_named}
+use Rattle.machine_model.specs.Run.{Hears, Run, Takes, Transcript}
 use Rattle.durable.specs.Place.{byte_at_place, is_line_present, line_has}
 use Rattle.durable.specs.Place.Place.{of_file}
 use Rattle.durable.specs.Durable.{AllHaveLines, HaveLines, IsLineThere}

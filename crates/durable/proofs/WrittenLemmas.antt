@@ -30,12 +30,12 @@ use Rattle.reply_text.specs.Answer.{Answer}
 use Rattle.reply_text.specs.Answer.Answer.{Done}
 use Rattle.script_text.specs.Action.{Action}
 use Rattle.script_text.specs.Action.Action.{BWrite, BAtomic, VStore, VSync, VPSync, ClearVolume}
-use Rattle.machine_host.specs.Machine.{Machine}
-use Rattle.machine_host.specs.Machine.Fate.{Works}
-use Rattle.machine_host.specs.Commands.{meaning, refusal, unless_refused}
-use Rattle.machine_host.specs.OnBlocks.{refusal_answer}
-use Rattle.machine_host.specs.OnVolume.{persist_at, volume_answer}
-use Rattle.machine_host.specs.Run.{Takes}
+use Rattle.machine_model.specs.Machine.{Machine}
+use Rattle.machine_model.specs.Machine.Fate.{Works}
+use Rattle.machine_model.specs.Commands.{meaning, refusal, unless_refused}
+use Rattle.machine_model.specs.OnBlocks.{refusal_answer}
+use Rattle.machine_model.specs.OnVolume.{persist_at, volume_answer}
+use Rattle.machine_model.specs.Run.{Takes}
 use Rattle.durable.specs.Place.{block_has, byte_at_place, is_line_present, is_weak_line, line_has}
 use Rattle.durable.specs.Place.Place.{of_volume, of_blocks}
 use Rattle.durable.specs.Region.{touched_lines_at}

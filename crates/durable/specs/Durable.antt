@@ -13,9 +13,9 @@ use Rattle.script_text.specs.Action.{Action}
 use Rattle.script_text.specs.Action.Action.{BRead, BWrite, BAtomic, BMulti, BDiscard, BDiscardIf, BExists, BScar, VLoad, VStore, VSync, VRanges, VPSync, VDiscard, VDiscardIf, VExists, Create, Delete, Rename, Resize, ListFiles, FRead, FWrite, FAtomic, FMulti, FDiscard, FSync, Map, Unmap, Load, Store, Sync, Flush, FlushVerify, DeepFlush, NextEvent, CheckFile, PoisonBlock, PoisonVolume, PoisonFile, PoisonMeta, WeakenFile, WeakenVolume, ClearFile, ClearVolume, Cut, CutIn, FailIn, Restart, Recover, Attr, Evict}
 use Rattle.script_text.specs.Script.{Input}
 use Rattle.script_text.specs.Script.Input.{Skipped, Malformed, Overlong, Asked}
-use Rattle.machine_host.specs.declared.mode.Mode.TheVariants.{On, Stopped}
-use Rattle.machine_host.specs.Machine.{Machine}
-use Rattle.machine_host.specs.Run.{Transcript, Hears, Run}
+use Rattle.machine_model.specs.declared.mode.Mode.TheVariants.{On, Stopped}
+use Rattle.machine_model.specs.Machine.{Machine}
+use Rattle.machine_model.specs.Run.{Transcript, Hears, Run}
 use Rattle.durable.specs.Place.{Place, byte_at_place, is_line_present, is_weak_at}
 use Rattle.durable.specs.Place.Place.{of_volume, of_blocks, of_file}
 use Rattle.durable.specs.Touching.{changes, is_begun, is_made_durable, may_wear, poisons, weakens, wears}

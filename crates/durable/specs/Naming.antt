@@ -9,10 +9,10 @@ use Rattle.block_device.specs.Refusals.Refusal.{Unreadable}
 use Rattle.reply_text.specs.Answer.{Answer}
 use Rattle.reply_text.specs.Answer.Answer.{PoisonFile, PoisonVolume}
 use Rattle.script_text.specs.Action.{Action}
-use Rattle.machine_host.specs.Commands.{meaning}
-use Rattle.machine_host.specs.Machine.{Machine}
-use Rattle.machine_host.specs.Meaning.{mode_refusal}
-use Rattle.machine_host.specs.OnBlocks.{refusal_answer}
+use Rattle.machine_model.specs.Commands.{meaning}
+use Rattle.machine_model.specs.Machine.{Machine}
+use Rattle.machine_model.specs.Meaning.{mode_refusal}
+use Rattle.machine_model.specs.OnBlocks.{refusal_answer}
 
 -- the lowest line of a span of pages that is bad
 pub record IsLowestBad (pages : List Page) (offset len n : ℕ) : Type 0 where

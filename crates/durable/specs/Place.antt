@@ -6,8 +6,8 @@ use Rattle.nvm_model.specs.Cell.Cell.{Bad, Kept}
 use Rattle.nvm_model.specs.Page.{Page, cell_of, presence_of}
 use Rattle.nvm_model.specs.Storage.{Block}
 use Rattle.nvm_model.specs.Storage.Block.{Absent, Scarred, Data}
-use Rattle.machine_host.specs.Machine.{Machine}
-use Rattle.machine_host.specs.OnPages.{pages_named}
+use Rattle.machine_model.specs.Machine.{Machine}
+use Rattle.machine_model.specs.OnPages.{pages_named}
 
 -- a byte of the volume, of the blocks, or of the file of a name, by its number
 pub data Place : Type 0 where

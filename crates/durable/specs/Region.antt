@@ -9,7 +9,7 @@ use Rattle.nvm_model.specs.Numbered.{is_among}
 use Rattle.nvm_model.specs.Storage.{Mapping}
 use Rattle.nvm_model.specs.Touched.{touches_any}
 use Rattle.file_actions.specs.Rewriting.{touches_any_page}
-use Rattle.machine_host.specs.OnFlushes.{all_moved}
+use Rattle.machine_model.specs.OnFlushes.{all_moved}
 use Rattle.durable.specs.Place.{Place}
 use Rattle.durable.specs.Place.Place.{of_volume, of_blocks, of_file}
 

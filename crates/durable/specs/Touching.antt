@@ -9,8 +9,8 @@ use Rattle.reply_text.specs.Answer.{Answer}
 use Rattle.reply_text.specs.Answer.Answer.{Done, DoneBad, Bytes, Ranges, Files, Handle, Happened, NoEvent, BadLines, Attribute, VerifyFile, Yes, No, Scarred, PoisonBlock as PoisonedBlock, PoisonVolume as PoisonedVolume, PoisonFile as PoisonedFile, DeviceFailed, PowerLost, Stopped, Refused, RefusedMeta}
 use Rattle.script_text.specs.Action.{Action}
 use Rattle.script_text.specs.Action.Action.{BRead, BWrite, BAtomic, BMulti, BDiscard, BDiscardIf, BExists, BScar, VLoad, VStore, VSync, VRanges, VPSync, VDiscard, VDiscardIf, VExists, Create, Delete, Rename, Resize, ListFiles, FRead, FWrite, FAtomic, FMulti, FDiscard, FSync, Map, Unmap, Load, Store, Sync, Flush, FlushVerify, DeepFlush, NextEvent, CheckFile, PoisonBlock, PoisonVolume, PoisonFile, PoisonMeta, WeakenFile, WeakenVolume, ClearFile, ClearVolume, Cut, CutIn, FailIn, Restart, Recover, Attr, Evict}
-use Rattle.machine_host.specs.OnBlocks.{blocks_from}
-use Rattle.machine_host.specs.Machine.{Machine}
+use Rattle.machine_model.specs.OnBlocks.{blocks_from}
+use Rattle.machine_model.specs.Machine.{Machine}
 use Rattle.word_tables.specs.declared.geometry.Geometry.{Geometry}
 use Rattle.durable.specs.Place.{Place}
 use Rattle.durable.specs.Region.{Region, discarded_pages, everything, all_files, file_bytes, flushed_lines, flushed_through, holds, line_of_blocks, line_of_file, line_of_volume, nothing, pages_bytes, ranges_bytes, rewritten_bytes, spanned, stored_bytes, touched_lines, touched_lines_at, two_files, whole_file}

@@ -11,12 +11,12 @@ use Rattle.script_text.specs.Action.{Action}
 use Rattle.script_text.specs.Action.Action.{FAtomic, FMulti, FDiscard, Recover, Restart}
 use Rattle.script_text.specs.Script.{Input}
 use Rattle.script_text.specs.Script.Input.{Skipped, Malformed, Overlong, Asked}
-use Rattle.machine_host.specs.Machine.{Machine}
-use Rattle.machine_host.specs.OnFileActions.{discarded_in, written_together}
-use Rattle.machine_host.specs.OnPages.{pages_named}
+use Rattle.machine_model.specs.Machine.{Machine}
+use Rattle.machine_model.specs.OnFileActions.{discarded_in, written_together}
+use Rattle.machine_model.specs.OnPages.{pages_named}
 use Rattle.durable.specs.Place.{byte_at_place}
 use Rattle.durable.specs.Place.Place.{of_file}
-use Rattle.machine_host.specs.Run.{Run, Transcript}
+use Rattle.machine_model.specs.Run.{Run, Transcript}
 use Rattle.durable.specs.Durable.{HasNothing}
 use Rattle.durable.specs.Files.{BreaksOff}
 

@@ -21,14 +21,14 @@ ghost use Rattle.script_text.specs.Script.{Input, inputs};
 ghost use Rattle.script_text.specs.Script.Input.{Asked};
 ghost use Rattle.line_device.specs.declared.line.Choice.{Choice};
 ghost use Rattle.line_device.specs.declared.line.Choice.TheVariants.{Firsts};
-ghost use Rattle.machine_host.specs.declared.mode.Mode.TheVariants.{On, Stopped};
-ghost use Rattle.machine_host.specs.declared.needs.Needs.TheVariants.{Usable};
-ghost use Rattle.machine_host.specs.Lines.{lowest};
-ghost use Rattle.machine_host.specs.Machine.{Machine};
-ghost use Rattle.machine_host.specs.OnPages.{pages_named};
-ghost use Rattle.machine_host.specs.Restarting.{reading};
-ghost use Rattle.machine_host.specs.Commands.{early_refusal, meaning};
-ghost use Rattle.machine_host.specs.Run.{Hears, Transcript, Run};
+ghost use Rattle.machine_model.specs.declared.mode.Mode.TheVariants.{On, Stopped};
+ghost use Rattle.machine_model.specs.declared.needs.Needs.TheVariants.{Usable};
+ghost use Rattle.machine_model.specs.Lines.{lowest};
+ghost use Rattle.machine_model.specs.Machine.{Machine};
+ghost use Rattle.machine_model.specs.OnPages.{pages_named};
+ghost use Rattle.machine_model.specs.Restarting.{reading};
+ghost use Rattle.machine_model.specs.Commands.{early_refusal, meaning};
+ghost use Rattle.machine_model.specs.Run.{Hears, Transcript, Run};
 ghost use Rattle.durable.specs.Place.{Place, byte_at_place, is_weak_at, is_weak_line};
 ghost use Rattle.durable.specs.Naming.{Names, NamesLine, NamesLineOf, NamesObstacle, refused_before};
 ghost use Rattle.durable.specs.Place.Place.{of_volume, of_blocks, of_file};
@@ -152,7 +152,7 @@ pub fn what_bad_metadata_stops()
 {}
 
 /// No more lasts than that: a store that is not synced may be lost, though no later command changes anything. Of a machine as a
-/// restart left it, where the pages are there and no bad line is stored over whole, a run leads back to where it began.
+/// restart left it, where the pages exist and no bad line is stored over whole, a run leads back to where it began.
 pub fn what_is_not_synced_may_go()
     ensures { (geo : Geometry) (image : Image) (stored : Machine) (offset : ℕ) (bytes : List ℕ)
         → touches_absent offset (length bytes) (presence_read geo image.word) ≡ false
@@ -196,7 +196,7 @@ pub fn a_stopped_write_is_whole_or_not()
         → byte_at_place later (of_file name i) ≡ Some 0 }
 {}
 
-/// Media errors of files are told once, in the order in which they came, and are found anew at a mount. While nothing is mounted anew,
+/// Media errors of files are told once, in the order in which they came, and are found again at a mount. While nothing is mounted again,
 /// what is told, and then what is still to be told, is what was to be told and then what came. One event comes of each line of a
 /// file that goes bad, and no other; a bad line that another name gets is no news. In mode On `event` tells the oldest, where there is one.
 /// After a mount there is an event of each bad line of the files that there are then.

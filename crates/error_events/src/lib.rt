@@ -3,13 +3,11 @@
 #![tactic(auto)]
 
 mod queue;
-#[cfg(test)]
-mod tests;
 
 use nvm_base::Name;
 pub use queue::Events;
 
-/// A media error: so many bytes of a file are lost.
+/// A media error: a number of bytes of a file are lost.
 #[derive(Clone, Copy, Debug, PartialEq, Eq)]
 pub struct Event {
     pub file: Name,
@@ -17,6 +15,6 @@ pub struct Event {
     pub len: u64,
     /// A shared mapping showed the place.
     pub mapped: bool,
-    /// It came since the last restart.
+    /// Whether the event came since the last restart.
     pub live: bool,
 }

@@ -1,6 +1,7 @@
 -- A look that was read up to some line.
-use Rattle.std.proofs.Common.{◌≡◌, ℕ, Bool, true, false, ◌==◌, ◌+◌, ◌<◌, ◌≤◌, List, [], ◌∷◌, ◌++◌, map, Option, Some, None, Ok, Err, length, refl, ap, sym, ◌∙◌, arith}
-use Rattle.std.specs.Prelude.{suc, not, ◌||◌, IsSomeAnd, option_and_then, if◌then◌else◌}
+use Rattle.std.proofs.Common.{◌≡◌, ℕ, Bool, true, false, ◌==◌, ◌+◌, ◌<◌, ◌≤◌, List, [], ◌∷◌, ◌++◌, map, Option, Some, None, Result, Ok, Err, length, refl, ap, sym, ◌∙◌, arith}
+use Rattle.std.specs.Prelude.{suc, not, ◌&&◌, ◌||◌, IsOkAnd, IsSomeAnd, if◌then◌else◌}
+use Rattle.std.proofs.lemmas.List.{length-map}
 use Rattle.script_text.specs.Script.{lines_of}
 use Rattle.reply_text.specs.Answer.{Answer}
 use Rattle.outcomes.specs.Seen.{Seen}
@@ -11,7 +12,11 @@ use Rattle.asked_reads.specs.Looking.{read_action}
 use Rattle.exploration.specs.declared.look.Look.{Look as LookHeld}
 use Rattle.exploration.specs.declared.stop.LineStop.{LineStop}
 use Rattle.exploration.specs.declared.stop.LineStop.TheVariants.{Memory, Untaken}
-use Rattle.exploration.specs.Exploration.{Look, go_on, is_asked, look_from, look_start, question_of, with_line}
+use Rattle.word_tables.specs.declared.geometry.Geometry.{Geometry}
+use Rattle.exploration.specs.declared.exploration.ScriptFault.TheVariants.{Line}
+use Rattle.exploration.specs.declared.reason.Reason.{Reason}
+use Rattle.exploration.specs.declared.reason.Reason.TheVariants.{NothingAsked}
+use Rattle.exploration.specs.Exploration.{Look, asks_of_reads, go_on, is_asked, look_from, look_start, question_of, with_taken}
 use Rattle.exploration.specs.Lines.{LookLine, look_line}
 use Rattle.exploration.specs.Lines.LookLine.{Asks}
 use Rattle.exploration.specs.Reading.{AskOf}
@@ -21,15 +26,19 @@ pub some_and : {A : Type 0} (o : Option A) (P : A → Type 0) → IsSomeAnd o P 
 some_and None P holds = absurd holds
 some_and (Some x) P holds = (x, refl, holds)
 
+pub ok_and : {A E : Type 0} (r : Result A E) (P : A → Type 0) → IsOkAnd r P → (x : A) × (r ≡ Ok x) × P x
+ok_and (Err e) P holds = absurd holds
+ok_and (Ok x) P holds = (x, refl, holds)
+
 -- what was read, and what of the text is left from line n on
-pub record LookUpTo (text : List ℕ) (first : ℕ) (held : LookHeld) (n : ℕ) (rest : List ℕ) : Type 0 where
+pub record LookUpTo (geo : Geometry) (text : List ℕ) (first : ℕ) (held : LookHeld) (n : ℕ) (rest : List ℕ) : Type 0 where
   pub look : Look
   pub is : IsHeld look held
-  pub goes : look_from first look_start (lines_of text) ≡ look_from n look (lines_of rest)
+  pub goes : look_from geo first look_start (lines_of text) ≡ look_from geo n look (lines_of rest)
   pub room : n + length rest ≤ first + length text
 
-pub look_up_to-start : (text : List ℕ) (first : ℕ) (held : LookHeld) → held.reads.items ≡ [] → held.table ≡ false → held.list ≡ false → held.questions.items ≡ [] → LookUpTo text first held first text
-look_up_to-start text first held reads table list questions = record {
+pub look_up_to-start : (geo : Geometry) (text : List ℕ) (first : ℕ) (held : LookHeld) → held.reads.items ≡ [] → held.table ≡ false → held.list ≡ false → held.questions.items ≡ [] → LookUpTo geo text first held first text
+look_up_to-start geo text first held reads table list questions = record {
   look = look_start;
   is = record { reads = rw reads refl; table = table; list = list; questions = rw questions tt };
   goes = refl;
@@ -37,34 +46,42 @@ look_up_to-start text first held reads table list questions = record {
 }
 
 -- one line more, where it is taken
-pub look_up_to-more : (text : List ℕ) (first : ℕ) (old new : LookHeld) (n : ℕ) (rest line others : List ℕ) → LookUpTo text first old n rest
+pub look_up_to-more : (geo : Geometry) (text : List ℕ) (first : ℕ) (old new : LookHeld) (n : ℕ) (rest line others : List ℕ) → LookUpTo geo text first old n rest
     → lines_of rest ≡ line ∷ lines_of others → length others < length rest
-    → ((look : Look) → IsHeld look old → IsSomeAnd (option_and_then (with_line look) (look_line line)) (λ next. IsHeld next new))
-    → LookUpTo text first new (n + 1) others
-look_up_to-more text first old new n rest line others up cut fewer takes =
-    let next = some_and (option_and_then (with_line up.look) (look_line line)) (λ next. IsHeld next new) (takes up.look up.is) in
+    → ((look : Look) → IsHeld look old → IsOkAnd (with_taken geo look (look_line line)) (λ next. IsHeld next new))
+    → LookUpTo geo text first new (n + 1) others
+look_up_to-more geo text first old new n rest line others up cut fewer takes =
+    let next = ok_and (with_taken geo up.look (look_line line)) (λ next. IsHeld next new) (takes up.look up.is) in
     record {
       look = next.0;
       is = next.2;
-      goes = up.goes ∙ ap (look_from n up.look) cut ∙ ap (go_on n (λ (l : Look). look_from (n + 1) l (lines_of others))) next.1;
+      goes = up.goes ∙ ap (look_from geo n up.look) cut ∙ ap (go_on n (λ (l : Look). look_from geo (n + 1) l (lines_of others))) next.1;
       room = omega (arith, up.room);
     }
 
 -- or the script stops there
-pub look_up_to-stops : (text : List ℕ) (first : ℕ) (old new : LookHeld) (n : ℕ) (rest line others : List ℕ) (stop : LineStop) → LookUpTo text first old n rest
+pub look_up_to-stops : (geo : Geometry) (text : List ℕ) (first : ℕ) (old new : LookHeld) (n : ℕ) (rest line others : List ℕ) (stop : LineStop) → LookUpTo geo text first old n rest
     → lines_of rest ≡ line ∷ lines_of others
-    → ((look : Look) → IsHeld look old → TakesLine (option_and_then (with_line look) (look_line line)) new (Err stop))
-    → ReadsLook (look_from first look_start (lines_of text)) (Err (fault_at n stop))
-look_up_to-stops text first old new n rest line others Untaken up cut takes =
-    up.goes ∙ ap (look_from n up.look) cut ∙ ap (go_on n (λ (l : Look). look_from (n + 1) l (lines_of others))) (takes up.look up.is)
-look_up_to-stops text first old new n rest line others Memory up cut takes = tt
+    → ((look : Look) → IsHeld look old → TakesLine (with_taken geo look (look_line line)) new (Err stop))
+    → ReadsLook (look_from geo first look_start (lines_of text)) (Err (fault_at n stop))
+look_up_to-stops geo text first old new n rest line others (Untaken why) up cut takes =
+    up.goes ∙ ap (look_from geo n up.look) cut ∙ ap (go_on n (λ (l : Look). look_from geo (n + 1) l (lines_of others))) (takes up.look up.is)
+look_up_to-stops geo text first old new n rest line others Memory up cut takes = tt
 
--- at the end all was read
-pub look_up_to-end : (text : List ℕ) (first : ℕ) (held : LookHeld) (n : ℕ) (rest : List ℕ) → LookUpTo text first held n rest → lines_of rest ≡ []
-    → ReadsLook (look_from first look_start (lines_of text)) (Ok held)
-look_up_to-end text first held n rest up over =
-    let e = up.goes ∙ ap (look_from n up.look) over in
-    rw e up.is
+-- at the end all was read, and something has to be asked
+pub look_up_to-end : (geo : Geometry) (text : List ℕ) (first : ℕ) (held : LookHeld) (n : ℕ) (rest : List ℕ) (asks : Bool) → LookUpTo geo text first held n rest → lines_of rest ≡ []
+    → ((look : Look) → IsHeld look held → asks ≡ asks_of_reads look) → asks ≡ true → ReadsLook (look_from geo first look_start (lines_of text)) (Ok held)
+look_up_to-end geo text first held n rest asks up over is some =
+    let test : asks_of_reads up.look ≡ true = sym (is up.look up.is) ∙ some in
+    let e = up.goes ∙ ap (look_from geo n up.look) over in
+    rw (e, test) up.is
+
+pub look_up_to-nothing : (geo : Geometry) (text : List ℕ) (first : ℕ) (held : LookHeld) (n : ℕ) (rest : List ℕ) (asks : Bool) → LookUpTo geo text first held n rest → lines_of rest ≡ []
+    → ((look : Look) → IsHeld look held → asks ≡ asks_of_reads look) → asks ≡ false → ReadsLook (look_from geo first look_start (lines_of text)) (Err (Line n NothingAsked))
+look_up_to-nothing geo text first held n rest asks up over is none =
+    let test : asks_of_reads up.look ≡ false = sym (is up.look up.is) ∙ none in
+    let e = up.goes ∙ ap (look_from geo n up.look) over in
+    rw (e, test) refl
 
 -- as many questions are asked as are held
 asked-count : (looks : List (List Seen)) (qs : List Question) → AskOf looks qs → length looks ≡ length qs
@@ -77,6 +94,10 @@ asked-count (look ∷ looks) (q ∷ qs) asked = ap suc (asked-count looks qs ask
 pub held_asked : (look : Look) (held : LookHeld) → IsHeld look held → is_asked look ≡ held.table || held.list || not (length held.questions.items == 0)
 held_asked look held is = rw (is.table, is.list, asked-count look.questions held.questions.items is.questions) refl
 
+-- there are as many reads
+pub held_reads : (look : Look) (held : LookHeld) → IsHeld look held → length look.reads ≡ length held.reads.items
+held_reads look held is = sym (ap length is.reads) ∙ length-map held.reads.items read_action
+
 asked-more : (looks : List (List Seen)) (qs : List Question) (look : List Seen) (q : Question) → AskOf looks qs → IsLook look q → AskOf (looks ++ look ∷ []) (qs ++ q ∷ [])
 asked-more [] [] look q asked is = (is, tt)
 asked-more [] (r ∷ qs) look q asked is = absurd asked
@@ -84,12 +105,12 @@ asked-more (l ∷ looks) [] look q asked is = absurd asked
 asked-more (l ∷ looks) (r ∷ qs) look q asked is = (asked.0, asked-more looks qs look q asked.1 is)
 
 -- one question more
-pub held-asks : (look : Look) (old new : LookHeld) (kind : Option LookLine) (replies : List (Option Answer)) (reads : List Action) (q : Question) (ok : Bool) → IsHeld look old
-    → kind ≡ Some (Asks replies) → reads ≡ map read_action old.reads.items → IsSomeAnd (question_of reads replies) (λ asked. IsLook asked q)
+pub held-asks : (geo : Geometry) (look : Look) (old new : LookHeld) (kind : Result LookLine Reason) (replies : List (Option Answer)) (reads : List Action) (q : Question) (ok : Bool) → IsHeld look old
+    → kind ≡ Ok (Asks replies) → reads ≡ map read_action old.reads.items → IsOkAnd (question_of geo reads replies) (λ asked. IsLook asked q)
     → new.questions.items ≡ (if ok then old.questions.items ++ q ∷ [] else old.questions.items) → ok ≡ true → new.reads.items ≡ old.reads.items → new.table ≡ old.table → new.list ≡ old.list
-    → IsSomeAnd (option_and_then (with_line look) kind) (λ next. IsHeld next new)
-held-asks look old new kind replies reads q ok is asks all finds questions done same table list =
-    let asked = some_and (question_of reads replies) (λ asked. IsLook asked q) finds in
-    let found : question_of look.reads replies ≡ Some asked.0 = ap (λ rs. question_of rs replies) (sym (all ∙ is.reads)) ∙ asked.1 in
+    → IsOkAnd (with_taken geo look kind) (λ next. IsHeld next new)
+held-asks geo look old new kind replies reads q ok is asks all finds questions done same table list =
+    let asked = ok_and (question_of geo reads replies) (λ asked. IsLook asked q) finds in
+    let found : question_of geo look.reads replies ≡ Ok asked.0 = ap (λ rs. question_of geo rs replies) (sym (all ∙ is.reads)) ∙ asked.1 in
     let grown : new.questions.items ≡ old.questions.items ++ q ∷ [] = questions ∙ ap (λ b. if b then old.questions.items ++ q ∷ [] else old.questions.items) done in
     rw (asks, found) (record { reads = ap (map read_action) same ∙ is.reads; table = table ∙ is.table; list = list ∙ is.list; questions = rw grown (asked-more look.questions old.questions.items asked.0 q is.questions asked.2) })

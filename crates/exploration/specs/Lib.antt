@@ -1,5 +1,7 @@
 pub mod Replies
 pub mod Reads
+pub mod Fitting
+pub mod Telling
 pub mod Lines
 pub mod Exploration
 pub mod Reading

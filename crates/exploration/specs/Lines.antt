@@ -1,13 +1,15 @@
 -- What a line is in the program, and in the look.
-use Rattle.std.specs.Prelude.{ℕ, List, Option, Some, None, is_some, if◌then◌else◌}
+use Rattle.std.specs.Prelude.{ℕ, List, Option, Some, None, Result, Ok, Err, is_some, if◌then◌else◌}
 use Rattle.script_text.specs.Action.{Action}
 use Rattle.script_text.specs.Script.{Input, line_input}
 use Rattle.script_text.specs.Script.Input.{Skipped, Malformed, Overlong, Asked}
 use Rattle.reply_text.specs.Answer.{Answer}
 use Rattle.questions.specs.Question.{QuestionLine, question_line}
-use Rattle.questions.specs.Question.QuestionLine.{Plain, Look, Lists as AsksList, Tabulates, Never, Wrong}
+use Rattle.questions.specs.Question.QuestionLine.{Plain, Look, Lists as AsksList, Tabulates, Never, Misspelled, NoReply}
 use Rattle.outcomes.specs.Stops.{is_of_program}
 use Rattle.exploration.specs.Reads.{read_of}
+use Rattle.exploration.specs.declared.reason.Reason.{Reason}
+use Rattle.exploration.specs.declared.reason.Reason.TheVariants as why
 
 -- a line of the program: a command or none, or the end of the program, where the look begins
 pub data ProgramLine : Type 0 where
@@ -22,40 +24,42 @@ pub data LookLine : Type 0 where
   Lists : LookLine
   Asks : List (Option Answer) → LookLine
 
--- what a line that is no question is in the program, None where it is not taken
-abbrev pub program_input : Input → Option ProgramLine
-program_input Skipped = Some (Does None)
-program_input Malformed = None
-program_input Overlong = None
-program_input (Asked action) = if is_of_program action then Some (Does (Some action)) else None
+-- what a line that is no question is in the program, or why it is not taken
+abbrev pub program_input : Input → Result ProgramLine Reason
+program_input Skipped = Ok (Does None)
+program_input Malformed = Err why.Command
+program_input Overlong = Err why.TooLong
+program_input (Asked action) = if is_of_program action then Ok (Does (Some action)) else Err why.NotInAProgram
 
 -- what any line is in the program
-abbrev pub program_kind : QuestionLine → Input → Option ProgramLine
+abbrev pub program_kind : QuestionLine → Input → Result ProgramLine Reason
 program_kind Plain input = program_input input
-program_kind Look input = Some Ends
-program_kind AsksList input = None
-program_kind Tabulates input = None
-program_kind (Never replies) input = None
-program_kind Wrong input = None
+program_kind Look input = Ok Ends
+program_kind AsksList input = Err why.BeforeTheLook
+program_kind Tabulates input = Err why.BeforeTheLook
+program_kind (Never replies) input = Err why.BeforeTheLook
+program_kind Misspelled input = Err why.Spelling
+program_kind (NoReply k) input = Err why.BeforeTheLook
 
-abbrev pub program_line : List ℕ → Option ProgramLine
+abbrev pub program_line : List ℕ → Result ProgramLine Reason
 program_line line = program_kind (question_line line) (line_input line)
 
--- what a line that is no question is in the look, None where it is not taken
-abbrev pub look_input : Input → Option LookLine
-look_input Skipped = Some Passes
-look_input Malformed = None
-look_input Overlong = None
-look_input (Asked action) = if is_some (read_of action) then Some (Reads action) else None
+-- what a line that is no question is in the look, or why it is not taken
+abbrev pub look_input : Input → Result LookLine Reason
+look_input Skipped = Ok Passes
+look_input Malformed = Err why.Command
+look_input Overlong = Err why.TooLong
+look_input (Asked action) = if is_some (read_of action) then Ok (Reads action) else Err why.NotInALook
 
 -- what any line is in the look
-abbrev pub look_kind : QuestionLine → Input → Option LookLine
+abbrev pub look_kind : QuestionLine → Input → Result LookLine Reason
 look_kind Plain input = look_input input
-look_kind Look input = None
-look_kind AsksList input = Some Lists
-look_kind Tabulates input = Some Tables
-look_kind (Never replies) input = Some (Asks replies)
-look_kind Wrong input = None
+look_kind Look input = Err why.Again
+look_kind AsksList input = Ok Lists
+look_kind Tabulates input = Ok Tables
+look_kind (Never replies) input = Ok (Asks replies)
+look_kind Misspelled input = Err why.Spelling
+look_kind (NoReply k) input = Err (why.Reply k)
 
-abbrev pub look_line : List ℕ → Option LookLine
+abbrev pub look_line : List ℕ → Result LookLine Reason
 look_line line = look_kind (question_line line) (line_input line)

@@ -23,10 +23,10 @@ abbrev pub Holds : Script → Exploration → Type 0
 Holds (Taken e) exploration =
     (map (option_map action_of) exploration.program.items ≡ e.program) × (map read_action exploration.reads.items ≡ e.reads) × (exploration.table ≡ e.table)
     × (exploration.list ≡ e.list) × AskOf e.questions exploration.questions.items
-Holds (StopsAt n) exploration = ⊥
+Holds (StopsAt n why) exploration = ⊥
 
 -- what came of a script's text
 abbrev pub ReadsScript : Script → Result Exploration ScriptFault → Type 0
 ReadsScript script (Ok exploration) = Holds script exploration
-ReadsScript script (Err (Line n)) = script ≡ StopsAt n
+ReadsScript script (Err (Line n why)) = script ≡ StopsAt n why
 ReadsScript script (Err Memory) = Unit {0}

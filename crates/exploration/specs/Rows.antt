@@ -8,8 +8,14 @@ use Rattle.outcomes.specs.Blocks.{BlockReply}
 use Rattle.outcomes.specs.Blocks.BlockReply.{Scar, BadLine}
 use Rattle.outcomes.specs.Seen.{Seen}
 use Rattle.outcomes.specs.Seen.Seen.{of_blocks, of_file, of_volume}
+use Rattle.word_tables.specs.declared.geometry.Geometry.{Geometry}
+use Rattle.exploration.specs.declared.reason.Reason.TheVariants as why
 use Rattle.exploration.specs.Exploration.{script_of}
 use Rattle.exploration.specs.Exploration.Script.{StopsAt, Taken}
+
+-- the smallest sizes
+abbrev pub sizes : Geometry
+sizes = record { blocks = 8; vpages = 2; fpages = 32 }
 
 -- lines, each with its newline
 abbrev pub text_of : List (List ℕ) → List ℕ
@@ -27,32 +33,35 @@ abbrev pub file : List ℕ → ℕ → ℕ → PageReply → Seen
 file name start len reply = of_file (record { name = name; pages = record { start = start; len = len; reply = reply } })
 
 pub record ScriptRows : Type 0 where
-  pub one_question : script_of (text_of (codes "vstore 0 01" ∷ codes "vsync 0 64" ∷ codes "# look" ∷ codes "vload 0 1" ∷ codes "# never data 00" ∷ []))
+  pub one_question : script_of sizes (text_of (codes "vstore 0 01" ∷ codes "vsync 0 64" ∷ codes "# look" ∷ codes "vload 0 1" ∷ codes "# never data 00" ∷ []))
       ≡ Taken (record { program = Some (VStore 0 (1 ∷ [])) ∷ Some (VSync 0 64) ∷ []; reads = VLoad 0 1 ∷ []; table = false; list = false; questions = (page 0 1 (Shows (0 ∷ [])) ∷ []) ∷ [] })
-  pub reads_of_both_kinds : script_of (text_of (codes "# a block" ∷ [] ∷ codes "bwrite 3 aa*512" ∷ codes "# look" ∷ codes "bread 3 1" ∷ [] ∷ codes "vload 64 64"
-      ∷ codes "# never scarred 3 | poison volume 64 64" ∷ codes "# never _ | refused range" ∷ codes "# never poison block 3 7 | _" ∷ []))
+  pub reads_of_both_kinds : script_of sizes (text_of (codes "# a block" ∷ [] ∷ codes "bwrite 3 aa*512" ∷ codes "# look" ∷ codes "bread 3 1" ∷ [] ∷ codes "vload 64 64"
+      ∷ codes "# never scarred 3 | poison volume 64 64" ∷ codes "# never _ | data 07*64" ∷ codes "# never poison block 3 7 | _" ∷ []))
       ≡ Taken (record {
         program = None ∷ None ∷ Some (BWrite 3 (replicate 512 170)) ∷ [];
         reads = BRead 3 1 ∷ VLoad 64 64 ∷ [];
         table = false;
         list = false;
-        questions = (block 3 1 (Scar 3) ∷ page 64 64 (Poison 64) ∷ []) ∷ (page 64 64 (Refuses Range) ∷ []) ∷ (block 3 1 (BadLine 3 7) ∷ []) ∷ [];
+        questions = (block 3 1 (Scar 3) ∷ page 64 64 (Poison 64) ∷ []) ∷ (page 64 64 (Shows (replicate 64 7)) ∷ []) ∷ (block 3 1 (BadLine 3 7) ∷ []) ∷ [];
       })
-  pub no_look : script_of (codes "vstore 0 01") ≡ Taken (record { program = Some (VStore 0 (1 ∷ [])) ∷ []; reads = []; table = false; list = false; questions = [] })
-  pub a_table : script_of (text_of (codes "# look" ∷ codes "vload 0 1" ∷ codes "# table" ∷ []))
+  pub no_look : script_of sizes (codes "vstore 0 01") ≡ StopsAt 2 why.NothingAsked
+  pub no_line : script_of sizes [] ≡ StopsAt 1 why.NothingAsked
+  pub look_without_reads : script_of sizes (text_of (codes "# look" ∷ codes "# table" ∷ [])) ≡ StopsAt 3 why.NothingAsked
+  pub reads_without_a_question : script_of sizes (text_of (codes "# look" ∷ codes "vload 0 1" ∷ [])) ≡ StopsAt 3 why.NothingAsked
+  pub a_table : script_of sizes (text_of (codes "# look" ∷ codes "vload 0 1" ∷ codes "# table" ∷ []))
       ≡ Taken (record { program = []; reads = VLoad 0 1 ∷ []; table = true; list = false; questions = [] })
-  pub a_list : script_of (text_of (codes "# look" ∷ codes "vload 0 1" ∷ codes "# list" ∷ []))
+  pub a_list : script_of sizes (text_of (codes "# look" ∷ codes "vload 0 1" ∷ codes "# list" ∷ []))
       ≡ Taken (record { program = []; reads = VLoad 0 1 ∷ []; table = false; list = true; questions = [] })
-  pub all_that_may_be_asked : script_of (text_of (codes "# look" ∷ codes "vload 0 1" ∷ codes "# list" ∷ codes "# never data 00" ∷ codes "# table" ∷ codes "# list" ∷ []))
+  pub all_that_may_be_asked : script_of sizes (text_of (codes "# look" ∷ codes "vload 0 1" ∷ codes "# list" ∷ codes "# never data 00" ∷ codes "# table" ∷ codes "# list" ∷ []))
       ≡ Taken (record { program = []; reads = VLoad 0 1 ∷ []; table = true; list = true; questions = (page 0 1 (Shows (0 ∷ [])) ∷ []) ∷ [] })
-  pub read_behind_a_table : script_of (text_of (codes "# look" ∷ codes "# table" ∷ codes "vload 0 1" ∷ [])) ≡ StopsAt 3
-  pub read_behind_a_list : script_of (text_of (codes "# look" ∷ codes "vload 0 1" ∷ codes "# list" ∷ codes "vload 0 1" ∷ [])) ≡ StopsAt 4
-  pub read_behind_a_question : script_of (text_of (codes "# look" ∷ codes "vload 0 1" ∷ codes "# never data 00" ∷ codes "vload 0 1" ∷ [])) ≡ StopsAt 4
-  pub command_of_power : script_of (text_of (codes "vstore 0 01" ∷ codes "cut" ∷ codes "vsync" ∷ [])) ≡ StopsAt 2
-  pub one_reply_to_two_reads : script_of (text_of (codes "# look" ∷ codes "vload 0 1" ∷ codes "bread 0 1" ∷ codes "# never data 00" ∷ [])) ≡ StopsAt 4
-  pub reply_of_another_read : script_of (text_of (codes "# look" ∷ codes "vload 0 64" ∷ codes "# never poison block 0 0" ∷ [])) ≡ StopsAt 3
-  pub second_look : script_of (text_of (codes "vexists 0" ∷ codes "# look" ∷ codes "# look" ∷ [])) ≡ StopsAt 3
-  pub reads_of_files : script_of (text_of (codes "create log 1" ∷ codes "# look" ∷ codes "fread log 0 64" ∷ codes "fread f 64 1" ∷ codes "# never data 07*64 | refused missing"
+  pub read_behind_a_table : script_of sizes (text_of (codes "# look" ∷ codes "# table" ∷ codes "vload 0 1" ∷ [])) ≡ StopsAt 3 why.ReadAfterAQuestion
+  pub read_behind_a_list : script_of sizes (text_of (codes "# look" ∷ codes "vload 0 1" ∷ codes "# list" ∷ codes "vload 0 1" ∷ [])) ≡ StopsAt 4 why.ReadAfterAQuestion
+  pub read_behind_a_question : script_of sizes (text_of (codes "# look" ∷ codes "vload 0 1" ∷ codes "# never data 00" ∷ codes "vload 0 1" ∷ [])) ≡ StopsAt 4 why.ReadAfterAQuestion
+  pub command_of_power : script_of sizes (text_of (codes "vstore 0 01" ∷ codes "cut" ∷ codes "vsync" ∷ [])) ≡ StopsAt 2 why.NotInAProgram
+  pub one_reply_to_two_reads : script_of sizes (text_of (codes "# look" ∷ codes "vload 0 1" ∷ codes "bread 0 1" ∷ codes "# never data 00" ∷ [])) ≡ StopsAt 4 (why.Replies 1 2)
+  pub reply_of_another_read : script_of sizes (text_of (codes "# look" ∷ codes "vload 0 64" ∷ codes "# never poison block 0 0" ∷ [])) ≡ StopsAt 3 (why.Kind 1)
+  pub second_look : script_of sizes (text_of (codes "vexists 0" ∷ codes "# look" ∷ codes "# look" ∷ [])) ≡ StopsAt 3 why.Again
+  pub reads_of_files : script_of sizes (text_of (codes "create log 1" ∷ codes "# look" ∷ codes "fread log 0 64" ∷ codes "fread f 64 1" ∷ codes "# never data 07*64 | refused missing"
       ∷ codes "# never poison file log 0 64 | _" ∷ []))
       ≡ Taken (record {
         program = Some (Create (codes "log") 1) ∷ [];
@@ -61,7 +70,21 @@ pub record ScriptRows : Type 0 where
         list = false;
         questions = (file (codes "log") 0 64 (Shows (replicate 64 7)) ∷ file (codes "f") 64 1 (Refuses Missing) ∷ []) ∷ (file (codes "log") 0 64 (Poison 0) ∷ []) ∷ [];
       })
-  pub line_of_another_file : script_of (text_of (codes "# look" ∷ codes "fread log 0 64" ∷ codes "# never poison file logs 0 64" ∷ [])) ≡ StopsAt 3
-  pub line_of_a_file_and_of_the_volume : script_of (text_of (codes "# look" ∷ codes "fread log 0 64" ∷ codes "# never poison volume 0 64" ∷ [])) ≡ StopsAt 3
-  pub load_of_a_mapping : script_of (text_of (codes "# look" ∷ codes "load 0 0 64" ∷ [])) ≡ StopsAt 2
-  pub list_before_the_look : script_of (text_of (codes "# list" ∷ codes "# look" ∷ [])) ≡ StopsAt 1
+  pub line_of_another_file : script_of sizes (text_of (codes "# look" ∷ codes "fread log 0 64" ∷ codes "# never poison file logs 0 64" ∷ [])) ≡ StopsAt 3 (why.Kind 1)
+  pub line_of_a_file_and_of_the_volume : script_of sizes (text_of (codes "# look" ∷ codes "fread log 0 64" ∷ codes "# never poison volume 0 64" ∷ [])) ≡ StopsAt 3 (why.Kind 1)
+  pub load_of_a_mapping : script_of sizes (text_of (codes "# look" ∷ codes "load 0 0 64" ∷ [])) ≡ StopsAt 2 why.NotInALook
+  pub list_before_the_look : script_of sizes (text_of (codes "# list" ∷ codes "# look" ∷ [])) ≡ StopsAt 1 why.BeforeTheLook
+  pub one_byte_short : script_of sizes (text_of (codes "# look" ∷ codes "vload 0 2" ∷ codes "# never data 00" ∷ [])) ≡ StopsAt 3 (why.Length 1)
+  pub half_a_block : script_of sizes (text_of (codes "# look" ∷ codes "vload 0 1" ∷ codes "bread 3 1" ∷ codes "# never data 00 | data 00*256" ∷ [])) ≡ StopsAt 4 (why.Length 2)
+  pub line_that_is_not_touched : script_of sizes (text_of (codes "# look" ∷ codes "vload 0 64" ∷ codes "# never poison volume 64 64" ∷ [])) ≡ StopsAt 3 (why.Place 1)
+  pub no_head_of_a_line : script_of sizes (text_of (codes "# look" ∷ codes "fread log 0 64" ∷ codes "# never poison file log 8 64" ∷ [])) ≡ StopsAt 3 (why.Place 1)
+  pub block_behind_the_read : script_of sizes (text_of (codes "# look" ∷ codes "bread 3 1" ∷ codes "# never scarred 4" ∷ [])) ≡ StopsAt 3 (why.Place 1)
+  pub ninth_line : script_of sizes (text_of (codes "# look" ∷ codes "bread 3 1" ∷ codes "# never poison block 3 8" ∷ [])) ≡ StopsAt 3 (why.Place 1)
+  pub refused_as_nothing_is : script_of sizes (text_of (codes "# look" ∷ codes "vload 0 1" ∷ codes "# never refused missing" ∷ [])) ≡ StopsAt 3 (why.Refusal 1)
+  pub past_the_volume : script_of sizes (text_of (codes "# look" ∷ codes "vload 8192 1" ∷ codes "# never data 00" ∷ [])) ≡ StopsAt 3 (why.Refusal 1)
+  pub refused_as_it_is : script_of sizes (text_of (codes "# look" ∷ codes "vload 8192 1" ∷ codes "# never refused range" ∷ []))
+      ≡ Taken (record { program = []; reads = VLoad 8192 1 ∷ []; table = false; list = false; questions = (page 8192 1 (Refuses Range) ∷ []) ∷ [] })
+  pub file_refused_by_no_word : script_of sizes (text_of (codes "# look" ∷ codes "fread f 0 1" ∷ codes "# never refused limit" ∷ [])) ≡ StopsAt 3 (why.Refusal 1)
+  pub no_reply_at_all : script_of sizes (text_of (codes "# look" ∷ codes "vload 0 1" ∷ codes "# never ok" ∷ [])) ≡ StopsAt 3 (why.Reply 1)
+  pub no_command : script_of sizes (text_of (codes "vstor 0 01" ∷ [])) ≡ StopsAt 1 why.Command
+  pub nearly_a_look : script_of sizes (text_of (codes "#look" ∷ [])) ≡ StopsAt 1 why.Spelling

@@ -14,9 +14,13 @@ use Rattle.exploration.specs.declared.look_lines.LookLine.TheVariants as look_re
 use Rattle.exploration.specs.declared.program.Parts.{Parts as PartsHeld}
 use Rattle.exploration.specs.declared.program_lines.ProgramLine.{ProgramLine as ProgramLineRead}
 use Rattle.exploration.specs.declared.program_lines.ProgramLine.TheVariants as program_read
+use Rattle.exploration.specs.declared.reason.Reason.{Reason}
+use Rattle.exploration.specs.declared.reason.Reason.TheVariants.{Kind}
 use Rattle.exploration.specs.declared.stop.LineStop.{LineStop}
 use Rattle.exploration.specs.declared.stop.LineStop.TheVariants.{Memory, Untaken}
-use Rattle.exploration.specs.Exploration.{Look, Parts}
+use Rattle.exploration.specs.declared.stop.ReplyStop.{ReplyStop}
+use Rattle.exploration.specs.declared.stop.ReplyStop.TheVariants as reply
+use Rattle.exploration.specs.Exploration.{Look, Parts, Untaken as Stopped}
 use Rattle.exploration.specs.Lines.{LookLine, ProgramLine}
 use Rattle.exploration.specs.Lines.LookLine.{Asks, Lists, Passes, Reads, Tables}
 use Rattle.exploration.specs.Lines.ProgramLine.{Does, Ends}
@@ -26,8 +30,13 @@ use Rattle.asked_reads.specs.Looking.{read_action}
 
 -- the fault of a script that stops at a line of that number
 abbrev pub fault_at : ℕ → LineStop → ScriptFault
-fault_at n Untaken = Line n
+fault_at n (Untaken why) = Line n why
 fault_at n Memory = NoMemory
+
+-- the stop of a line whose reply of that number it is
+abbrev pub line_stop : ℕ → ReplyStop → LineStop
+line_stop k reply.Kind = Untaken (Kind k)
+line_stop k reply.Memory = Memory
 
 -- what lines that were read are
 abbrev pub program_line_of : ProgramLineRead → ProgramLine
@@ -42,10 +51,16 @@ look_line_of look_read.List = Lists
 look_line_of (look_read.Asks replies) = Asks (map (option_map answer_asked) replies.items)
 
 -- what came of something that is there, or is not taken
-abbrev pub Finds : {A T : Type 0} → (T → A) → Option A → Result T LineStop → Type 0
-Finds of there (Ok x) = there ≡ Some (of x)
-Finds of there (Err Untaken) = there ≡ None
+abbrev pub Finds : {A T : Type 0} → (T → A) → Result A Reason → Result T LineStop → Type 0
+Finds of there (Ok x) = there ≡ Ok (of x)
+Finds of there (Err (Untaken why)) = there ≡ Err why
 Finds of there (Err Memory) = Unit {0}
+
+-- what came of a reply, where the read may have one of that kind
+abbrev pub FindsReply : {A T : Type 0} → (T → A) → Option A → Result T ReplyStop → Type 0
+FindsReply of there (Ok x) = there ≡ Some (of x)
+FindsReply of there (Err reply.Kind) = there ≡ None
+FindsReply of there (Err reply.Memory) = Unit {0}
 
 -- a command's numbers are within bounds
 abbrev pub IsBoundedLine : ProgramLineRead → Type 0
@@ -53,16 +68,22 @@ IsBoundedLine (program_read.Does command) = IsBounded command
 IsBoundedLine program_read.Ends = Unit {0}
 
 -- what came of replies that ask this of reads
-abbrev pub FindsQuestion : Option (List Seen) → Result Question LineStop → Type 0
-FindsQuestion asks (Ok q) = IsSomeAnd asks (λ look. IsLook look q)
-FindsQuestion asks (Err Untaken) = asks ≡ None
+abbrev pub FindsQuestion : Result (List Seen) Reason → Result Question LineStop → Type 0
+FindsQuestion asks (Ok q) = IsOkAnd asks (λ look. IsLook look q)
+FindsQuestion asks (Err (Untaken why)) = asks ≡ Err why
 FindsQuestion asks (Err Memory) = Unit {0}
 
 -- what came of one read more behind those of a look
-abbrev pub AddsRead : List Seen → Option Seen → Question → Result (Unit {0}) LineStop → Type 0
+abbrev pub AddsRead : List Seen → Option Seen → Question → Result (Unit {0}) ReplyStop → Type 0
 AddsRead look seen new (Ok u) = IsSomeAnd seen (λ s. IsLook (look ++ s ∷ []) new)
-AddsRead look seen new (Err Untaken) = seen ≡ None
-AddsRead look seen new (Err Memory) = Unit {0}
+AddsRead look seen new (Err reply.Kind) = seen ≡ None
+AddsRead look seen new (Err reply.Memory) = Unit {0}
+
+-- and where its reply has to fit it
+abbrev pub AsksRead : List Seen → Result Seen Reason → Question → Result (Unit {0}) LineStop → Type 0
+AsksRead look seen new (Ok u) = IsOkAnd seen (λ s. IsLook (look ++ s ∷ []) new)
+AsksRead look seen new (Err (Untaken why)) = seen ≡ Err why
+AsksRead look seen new (Err Memory) = Unit {0}
 
 -- the look that is held is this one
 pub record IsHeld (look : Look) (held : LookHeld) : Type 0 where
@@ -72,15 +93,15 @@ pub record IsHeld (look : Look) (held : LookHeld) : Type 0 where
   pub questions : AskOf look.questions held.questions.items
 
 -- what came of one line more, behind which the look is this one
-abbrev pub TakesLine : Option Look → LookHeld → Result (Unit {0}) LineStop → Type 0
-TakesLine next new (Ok u) = IsSomeAnd next (λ look. IsHeld look new)
-TakesLine next new (Err Untaken) = next ≡ None
+abbrev pub TakesLine : Result Look Reason → LookHeld → Result (Unit {0}) LineStop → Type 0
+TakesLine next new (Ok u) = IsOkAnd next (λ look. IsHeld look new)
+TakesLine next new (Err (Untaken why)) = next ≡ Err why
 TakesLine next new (Err Memory) = Unit {0}
 
 -- what came of the text of a look
-abbrev pub ReadsLook : Result Look ℕ → Result LookHeld ScriptFault → Type 0
+abbrev pub ReadsLook : Result Look Stopped → Result LookHeld ScriptFault → Type 0
 ReadsLook read (Ok held) = IsOkAnd read (λ look. IsHeld look held)
-ReadsLook read (Err (Line n)) = read ≡ Err n
+ReadsLook read (Err (Line n why)) = read ≡ Err (record { number = n; why = why })
 ReadsLook read (Err NoMemory) = Unit {0}
 
 -- the parts that are held are these
@@ -89,7 +110,7 @@ pub record ArePartsHeld (parts : Parts) (held : PartsHeld) : Type 0 where
   pub look : lines_of held.look.now ≡ parts.look
 
 -- what came of a script's text up to the look
-abbrev pub ReadsParts : Result Parts ℕ → Result PartsHeld ScriptFault → Type 0
+abbrev pub ReadsParts : Result Parts Stopped → Result PartsHeld ScriptFault → Type 0
 ReadsParts read (Ok held) = IsOkAnd read (λ parts. ArePartsHeld parts held)
-ReadsParts read (Err (Line n)) = read ≡ Err n
+ReadsParts read (Err (Line n why)) = read ≡ Err (record { number = n; why = why })
 ReadsParts read (Err NoMemory) = Unit {0}

@@ -1,4 +1,5 @@
 ghost use Rattle.std.specs.Prelude.{◌<◌, ◌^◌, All, IfOk, length};
+ghost use Rattle.word_tables.specs.Bounds.{IsValid};
 ghost use Rattle.outcomes.specs.Stops.{IsProgram};
 ghost use Rattle.exploration.specs.Exploration.{script_of};
 ghost use Rattle.asked_reads.specs.Program.{IsBounded, inputs_of_lines};
@@ -6,12 +7,14 @@ ghost use Rattle.exploration.specs.Reading.{ReadsScript};
 
 use crate::look::{Look, read_look};
 use crate::program::{Parts, read_program};
+use crate::reason::Reason;
 use asked_reads::{Question, Read};
 use script_text::Command;
 use std::alloc::{AllocError, Global};
+use word_tables::Geometry;
 
 /// What a script has to be explored.
-#[derive(Debug, Drop)]
+#[derive(Drop)]
 pub struct Exploration {
     /// One item for each line of the program, None where it has no command.
     pub program: Vec<Option<Command>>,
@@ -27,8 +30,8 @@ pub struct Exploration {
 /// Why a script is not explored.
 #[derive(Clone, Copy, Debug, PartialEq, Eq)]
 pub enum ScriptFault {
-    /// The first line that is not taken, by its number from 1 on.
-    Line(u64),
+    /// The first line that is not taken, by its number from 1 on, and why.
+    Line(u64, Reason),
     Memory,
 }
 
@@ -43,10 +46,15 @@ impl From<AllocError> for ScriptFault {
     }
 }
 
-/// The program of a script, and what it asks.
-pub fn read_script(alloc: Global, script: &[u8]) -> Result<Exploration, ScriptFault>
-    requires { length script.now < 2 ^ 32 }
-    ensures script { ReadsScript (script_of script.now) result }
+/// The program of a script, and what it asks on a device of these sizes.
+pub fn read_script(
+    alloc: Global,
+    geometry: Geometry,
+    script: &[u8],
+) -> Result<Exploration, ScriptFault>
+    requires valid { IsValid geometry }
+    requires few { length script.now < 2 ^ 32 }
+    ensures script { ReadsScript (script_of geometry script.now) result }
     ensures program { IfOk result (λ e. IsProgram (inputs_of_lines e.program.items)) }
     ensures bounds { IfOk result (λ e. All IsBounded e.program.items) }
 {
@@ -57,7 +65,7 @@ pub fn read_script(alloc: Global, script: &[u8]) -> Result<Exploration, ScriptFa
         table,
         list,
         questions,
-    } = read_look(alloc, look, first)?;
+    } = read_look(alloc, geometry, look, first)?;
     Ok(Exploration {
         program,
         reads,

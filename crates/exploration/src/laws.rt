@@ -4,7 +4,7 @@ ghost use Rattle.reply_text.specs.Answer.{Answer};
 ghost use Rattle.outcomes.specs.Seen.{Seen, answer, command};
 ghost use Rattle.exploration.specs.Reads.{seen_of};
 
-/// What is seen of a command and its answer is a read with its reply that has both, and each read with its reply is so seen.
+/// A command and its answer are seen as a read with its reply that has both, and each read with its reply is so seen.
 pub fn what_is_seen_was_asked()
     ensures seen { (asked : Action) (replied : Answer) (seen : Seen) → seen_of asked replied ≡ Some seen
         → (command seen ≡ asked) × (answer seen ≡ replied) }

@@ -2,6 +2,7 @@
 #![tactic(auto)]
 
 mod exploration;
+mod fitting;
 mod laws;
 mod lines;
 mod look;
@@ -9,12 +10,13 @@ mod look_lines;
 mod program;
 mod program_lines;
 mod question;
+mod reason;
 mod replies;
 mod rows;
 mod stop;
-#[cfg(test)]
-mod tests;
+mod telling;
 
 pub use exploration::{Exploration, ScriptFault, read_script};
 pub use laws::what_is_seen_was_asked;
+pub use reason::Reason;
 pub use rows::worked_scripts;

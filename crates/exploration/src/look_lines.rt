@@ -7,6 +7,7 @@ ghost use Rattle.exploration.specs.Lines.{look_input, look_line};
 ghost use Rattle.exploration.specs.Reads.{read_of};
 ghost use Rattle.exploration.specs.Steps.{Finds, look_line_of};
 
+use crate::reason::Reason;
 use crate::stop::LineStop;
 use asked_reads::Read;
 use questions::{QuestionFault, QuestionKind, Replies, read_question};
@@ -34,8 +35,9 @@ pub(crate) fn read_look_line(alloc: Global, line: &[u8]) -> Result<LookLine, Lin
         Ok(QuestionKind::Never(replies)) => Ok(LookLine::Asks(replies)),
         Ok(QuestionKind::Table) => Ok(LookLine::Table),
         Ok(QuestionKind::List) => Ok(LookLine::List),
-        Ok(QuestionKind::Look) => Err(LineStop::Untaken),
-        Err(QuestionFault::Syntax) => Err(LineStop::Untaken),
+        Ok(QuestionKind::Look) => Err(LineStop::Untaken(Reason::Again)),
+        Err(QuestionFault::Spelling) => Err(LineStop::Untaken(Reason::Spelling)),
+        Err(QuestionFault::Reply(k)) => Err(LineStop::Untaken(Reason::Reply(k))),
         Err(QuestionFault::Memory) => Err(LineStop::Memory),
     }
 }
@@ -48,9 +50,10 @@ fn read_plain_line(alloc: Global, line: &[u8]) -> Result<LookLine, LineStop>
         Ok(None) => Ok(LookLine::Passes),
         Ok(Some(command)) => match read_of(&command) {
             Some(read) => Ok(LookLine::Reads(read)),
-            None => Err(LineStop::Untaken),
+            None => Err(LineStop::Untaken(Reason::NotInALook)),
         },
-        Err(LineFault::Syntax | LineFault::TooLong) => Err(LineStop::Untaken),
+        Err(LineFault::Syntax) => Err(LineStop::Untaken(Reason::Command)),
+        Err(LineFault::TooLong) => Err(LineStop::Untaken(Reason::TooLong)),
         Err(LineFault::Memory) => Err(LineStop::Memory),
     }
 }

@@ -9,14 +9,15 @@ ghost use Rattle.exploration.specs.Steps.{ReadsParts};
 use crate::exploration::ScriptFault;
 use crate::lines::next_line;
 use crate::program_lines::{ProgramLine, read_program_line};
+use crate::reason::Reason;
 use script_text::Command;
 use std::alloc::{AllocError, Global};
 
-#[derive(Debug, Drop)]
+#[derive(Drop)]
 pub(crate) struct Parts<'a> {
     /// One item for each line.
     pub(crate) program: Vec<Option<Command>>,
-    /// What comes behind the program.
+    /// What comes after the program.
     pub(crate) look: &'a [u8],
 }
 
@@ -44,8 +45,6 @@ pub(crate) fn read_program(alloc: Global, script: &[u8]) -> Result<Parts<'_>, Sc
         }
         rest = others;
     }
-    Ok(Parts {
-        program,
-        look: rest,
-    })
+    let end = program.len() as u64 + 1;
+    Err(ScriptFault::Line(end, Reason::NothingAsked))
 }

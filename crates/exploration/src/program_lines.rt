@@ -6,12 +6,13 @@ ghost use Rattle.outcomes.specs.Stops.{is_of_program};
 ghost use Rattle.exploration.specs.Lines.{program_input, program_line};
 ghost use Rattle.exploration.specs.Steps.{Finds, IsBoundedLine, program_line_of};
 
+use crate::reason::Reason;
 use crate::stop::LineStop;
 use questions::{QuestionFault, QuestionKind, read_question};
 use script_text::{Command, LineFault, parse};
 use std::alloc::Global;
 
-#[derive(Debug, Drop)]
+#[derive(Drop)]
 pub(crate) enum ProgramLine {
     /// A command, or none.
     Does(Option<Command>),
@@ -26,10 +27,9 @@ pub(crate) fn read_program_line(alloc: Global, line: &[u8]) -> Result<ProgramLin
     match read_question(alloc, line) {
         Ok(QuestionKind::Plain) => read_command(alloc, line),
         Ok(QuestionKind::Look) => Ok(ProgramLine::Ends),
-        Ok(QuestionKind::List | QuestionKind::Table | QuestionKind::Never(_)) => Err(
-            LineStop::Untaken,
-        ),
-        Err(QuestionFault::Syntax) => Err(LineStop::Untaken),
+        Ok(QuestionKind::List | QuestionKind::Table | QuestionKind::Never(_))
+        | Err(QuestionFault::Reply(_)) => Err(LineStop::Untaken(Reason::BeforeTheLook)),
+        Err(QuestionFault::Spelling) => Err(LineStop::Untaken(Reason::Spelling)),
         Err(QuestionFault::Memory) => Err(LineStop::Memory),
     }
 }
@@ -45,10 +45,11 @@ fn read_command(alloc: Global, line: &[u8]) -> Result<ProgramLine, LineStop>
             if is_of_program(&command) {
                 Ok(ProgramLine::Does(Some(command)))
             } else {
-                Err(LineStop::Untaken)
+                Err(LineStop::Untaken(Reason::NotInAProgram))
             }
         }
-        Err(LineFault::Syntax | LineFault::TooLong) => Err(LineStop::Untaken),
+        Err(LineFault::Syntax) => Err(LineStop::Untaken(Reason::Command)),
+        Err(LineFault::TooLong) => Err(LineStop::Untaken(Reason::TooLong)),
         Err(LineFault::Memory) => Err(LineStop::Memory),
     }
 }

@@ -1,50 +1,113 @@
 // The question that replies ask of reads.
-ghost use Rattle.std.specs.Prelude.{List, map, option_map};
+ghost use Rattle.std.specs.Prelude.{List, [], map, option_map};
+ghost use Rattle.word_tables.specs.Bounds.{IsValid};
 ghost use Rattle.questions.specs.Asked.{answer_asked};
 ghost use Rattle.outcomes.specs.Seen.{Seen};
 ghost use Rattle.outcomes.specs.Seen.Seen.{of_file};
 ghost use Rattle.asked_reads.specs.Asking.{IsLook};
-ghost use Rattle.exploration.specs.Exploration.{question_of};
+ghost use Rattle.exploration.specs.Exploration.{asked_from, question_of};
+ghost use Rattle.exploration.specs.Fitting.{fits};
 ghost use Rattle.exploration.specs.Reads.{seen_by, seen_of};
 ghost use Rattle.asked_reads.specs.Looking.{read_action};
 ghost use Rattle.asked_reads.specs.Reads.{file_read as asked_file_read};
 ghost use Rattle.asked_reads.specs.declared.read.Read.TheVariants.{File};
-ghost use Rattle.exploration.specs.Steps.{AddsRead, Finds, FindsQuestion};
+ghost use Rattle.exploration.specs.Steps.{AddsRead, AsksRead, FindsQuestion, FindsReply};
 
+use crate::fitting::{has_length, has_place, has_refusal};
+use crate::reason::Reason;
 use crate::replies::{block_reply, file_reply, volume_reply};
-use crate::stop::LineStop;
+use crate::stop::{LineStop, ReplyStop};
 use asked_reads::{BlockRead, FileRead, PageRead, Question, Read};
 use nvm_base::Name;
 use questions::AskedReply;
+use sights::may_be_replies;
 use std::alloc::{AllocError, Global};
+use word_tables::Geometry;
 
 // Each read needs a reply, or None for any.
 pub(crate) fn question_of(
     alloc: Global,
+    geometry: Geometry,
     reads: &[Read],
     replies: &[Option<AskedReply>],
 ) -> Result<Question, LineStop>
-    ensures { FindsQuestion (question_of (map read_action reads.now) (map (option_map answer_asked) replies.now)) result }
+    requires { IsValid geometry }
+    ensures { FindsQuestion (question_of geometry (map read_action reads.now) (map (option_map answer_asked) replies.now)) result }
 {
-    let mut question = Question {
-        volume: Vec::new(alloc),
-        blocks: Vec::new(alloc),
-        files: Vec::new(alloc),
-    };
+    if replies.len() != reads.len() {
+        return Err(LineStop::Untaken(Reason::Replies {
+            given: replies.len() as u64,
+            reads: reads.len() as u64,
+        }));
+    }
+    ask_all(alloc, geometry, reads, replies)
+}
+
+// All of them, where they are as many.
+fn ask_all(
+    alloc: Global,
+    geometry: Geometry,
+    reads: &[Read],
+    replies: &[Option<AskedReply>],
+) -> Result<Question, LineStop>
+    requires { IsValid geometry }
+    ensures { FindsQuestion (asked_from geometry 1 (map read_action reads.now) (map (option_map answer_asked) replies.now)) result }
+{
+    let mut question = no_reads(alloc);
     let mut left = replies;
     for read in reads {
         let Some((reply, others)) = left.split_first() else {
-            return Err(LineStop::Untaken);
+            return Ok(question);
         };
         if let Some(reply) = reply {
-            add(alloc, &mut question, read, reply)?;
+            let number = (replies.len() - others.len()) as u64;
+            ask(alloc, geometry, &mut question, read, reply, number)?;
         }
         left = others;
     }
-    if left.is_empty() {
-        Ok(question)
-    } else {
-        Err(LineStop::Untaken)
+    Ok(question)
+}
+
+// A question that asks nothing yet.
+fn no_reads(alloc: Global) -> Question
+    ensures { IsLook [] result }
+{
+    Question {
+        volume: Vec::new(alloc),
+        blocks: Vec::new(alloc),
+        files: Vec::new(alloc),
+    }
+}
+
+// One read more that is asked, where its reply, which has that number, is one that it may have.
+fn ask(
+    alloc: Global,
+    geometry: Geometry,
+    question: &mut Question,
+    read: &Read,
+    reply: &AskedReply,
+    number: u64,
+) -> Result<(), LineStop>
+    requires { IsValid geometry }
+    ensures { (look : List Seen) → IsLook look question.old
+        → AsksRead look (fits geometry number (read_action read.now) (answer_asked reply.now)) question.new result }
+{
+    let mut alone = no_reads(alloc);
+    if let Err(stop) = add(alloc, &mut alone, read, reply) {
+        return Err(stop.of(number));
+    }
+    if !has_length(read, reply) {
+        return Err(LineStop::Untaken(Reason::Length(number)));
+    }
+    if !has_place(read, reply) {
+        return Err(LineStop::Untaken(Reason::Place(number)));
+    }
+    if !has_refusal(read, reply) || !may_be_replies(&alone, geometry) {
+        return Err(LineStop::Untaken(Reason::Refusal(number)));
+    }
+    match add(alloc, question, read, reply) {
+        Ok(()) => Ok(()),
+        Err(stop) => Err(stop.of(number)),
     }
 }
 
@@ -54,7 +117,7 @@ fn add(
     question: &mut Question,
     read: &Read,
     reply: &AskedReply,
-) -> Result<(), LineStop>
+) -> Result<(), ReplyStop>
     ensures { (look : List Seen) → IsLook look question.old
         → AddsRead look (seen_of (read_action read.now) (answer_asked reply.now)) question.new result }
 {
@@ -92,8 +155,8 @@ fn file_read(
     start: u32,
     len: u64,
     reply: &AskedReply,
-) -> Result<FileRead, LineStop>
-    ensures { Finds (λ r. of_file (asked_file_read r)) (seen_by (File name start len) (answer_asked reply.now)) result }
+) -> Result<FileRead, ReplyStop>
+    ensures { FindsReply (λ r. of_file (asked_file_read r)) (seen_by (File name start len) (answer_asked reply.now)) result }
 {
     let reply = file_reply(alloc, &name, reply)?;
     let pages = PageRead {

@@ -3,17 +3,17 @@ ghost use Rattle.std.specs.Prelude.{◌≡◌, IfOk};
 ghost use Rattle.questions.specs.Asked.{answer_asked};
 ghost use Rattle.asked_reads.specs.Reads.{block_reply as asked_block_reply, page_reply as asked_page_reply};
 ghost use Rattle.exploration.specs.Replies.{block_reply, file_reply, volume_reply};
-ghost use Rattle.exploration.specs.Steps.{Finds};
+ghost use Rattle.exploration.specs.Steps.{FindsReply};
 
-use crate::stop::LineStop;
+use crate::stop::ReplyStop;
 use asked_reads::{BlockReply, PageReply};
 use nvm_base::{Bytes, Name};
 use questions::AskedReply;
 use std::alloc::{AllocError, Global};
 
 // That of a read of the volume.
-pub(crate) fn volume_reply(alloc: Global, reply: &AskedReply) -> Result<PageReply, LineStop>
-    ensures { Finds asked_page_reply (volume_reply (answer_asked reply.now)) result }
+pub(crate) fn volume_reply(alloc: Global, reply: &AskedReply) -> Result<PageReply, ReplyStop>
+    ensures { FindsReply asked_page_reply (volume_reply (answer_asked reply.now)) result }
 {
     match reply {
         AskedReply::Bytes(bytes) => Ok(PageReply::Shows(copy(alloc, bytes)?)),
@@ -21,13 +21,13 @@ pub(crate) fn volume_reply(alloc: Global, reply: &AskedReply) -> Result<PageRepl
         AskedReply::Refused(why) => Ok(PageReply::Refuses(*why)),
         AskedReply::PoisonBlock { .. }
         | AskedReply::PoisonFile { .. }
-        | AskedReply::Scarred { .. } => Err(LineStop::Untaken),
+        | AskedReply::Scarred { .. } => Err(ReplyStop::Kind),
     }
 }
 
 // That of a read of blocks.
-pub(crate) fn block_reply(alloc: Global, reply: &AskedReply) -> Result<BlockReply, LineStop>
-    ensures { Finds asked_block_reply (block_reply (answer_asked reply.now)) result }
+pub(crate) fn block_reply(alloc: Global, reply: &AskedReply) -> Result<BlockReply, ReplyStop>
+    ensures { FindsReply asked_block_reply (block_reply (answer_asked reply.now)) result }
 {
     match reply {
         AskedReply::Bytes(bytes) => Ok(BlockReply::Shows(copy(alloc, bytes)?)),
@@ -37,7 +37,7 @@ pub(crate) fn block_reply(alloc: Global, reply: &AskedReply) -> Result<BlockRepl
             line: *line,
         }),
         AskedReply::Refused(why) => Ok(BlockReply::Refuses(*why)),
-        AskedReply::PoisonVolume { .. } | AskedReply::PoisonFile { .. } => Err(LineStop::Untaken),
+        AskedReply::PoisonVolume { .. } | AskedReply::PoisonFile { .. } => Err(ReplyStop::Kind),
     }
 }
 
@@ -46,8 +46,8 @@ pub(crate) fn file_reply(
     alloc: Global,
     name: &Name,
     reply: &AskedReply,
-) -> Result<PageReply, LineStop>
-    ensures { Finds asked_page_reply (file_reply name.now (answer_asked reply.now)) result }
+) -> Result<PageReply, ReplyStop>
+    ensures { FindsReply asked_page_reply (file_reply name.now (answer_asked reply.now)) result }
 {
     match reply {
         AskedReply::Bytes(bytes) => Ok(PageReply::Shows(copy(alloc, bytes)?)),
@@ -59,7 +59,7 @@ pub(crate) fn file_reply(
         AskedReply::PoisonFile { .. }
         | AskedReply::PoisonBlock { .. }
         | AskedReply::PoisonVolume { .. }
-        | AskedReply::Scarred { .. } => Err(LineStop::Untaken),
+        | AskedReply::Scarred { .. } => Err(ReplyStop::Kind),
     }
 }
 

@@ -17,26 +17,26 @@ use Rattle.reply_text.specs.Answer.{Answer}
 use Rattle.reply_text.specs.Answer.Answer.{Bytes, PoisonBlock, Refused, Scarred}
 use Rattle.script_text.specs.Action.{Action}
 use Rattle.script_text.specs.Action.Action.{BRead}
-use Rattle.machine_host.specs.Machine.{Machine}
-use Rattle.machine_host.specs.Machine.Fate.{Works}
-use Rattle.machine_host.specs.Commands.{fate, meaning, refusal, unless_refused, while_interrupted}
-use Rattle.machine_host.specs.Meaning.{first_reason, mode_refusal, most_refusal}
-use Rattle.machine_host.specs.OnBlocks.{refusal_answer}
+use Rattle.cut_places.specs.MachineModel.Machine.{Machine}
+use Rattle.cut_places.specs.MachineModel.Machine.Fate.{Works}
+use Rattle.cut_places.specs.MachineModel.Commands.{fate, meaning, refusal, unless_refused, while_interrupted}
+use Rattle.cut_places.specs.MachineModel.Meaning.{first_reason, mode_refusal, most_refusal}
+use Rattle.cut_places.specs.MachineModel.OnBlocks.{refusal_answer}
 use Rattle.line_words.specs.declared.interruption.Interruption.{Interruption}
 use Rattle.line_words.specs.declared.interruption.Interruption.TheVariants.{Failed, PowerLost as Lost}
-use Rattle.machine_host.specs.Interrupted.{interrupted_answer}
-use Rattle.machine_host.specs.Run.{Ends, Takes, Transcript}
+use Rattle.cut_places.specs.MachineModel.Interrupted.{interrupted_answer}
+use Rattle.cut_places.specs.MachineModel.Run.{Ends, Takes, Transcript}
 use Rattle.machine_host.specs.Stands.{Comes, HostState, Stands}
-use Rattle.outcomes.specs.Finds.{IsReady}
+use Rattle.cut_places.specs.Outcomes.Finds.{IsReady}
 use Rattle.explorer.specs.declared.came.Came.TheVariants.{Stopped}
 use Rattle.explorer.specs.Coming.{came_of}
 use Rattle.std.specs.List.{list_all, range_with_len}
-use Rattle.outcomes.specs.Blocks.{all_numbers_read, is_block_reply, numbers_read}
-use Rattle.asked_reads.specs.Reads.{block_read, block_reply, blocks_asked}
-use Rattle.asked_reads.specs.declared.reads.BlockRead.{BlockRead as Asked}
+use Rattle.cut_places.specs.Outcomes.Blocks.{all_numbers_read, is_block_reply, numbers_read}
+use Rattle.cut_places.specs.AskedReads.Reads.{block_read, block_reply, blocks_asked}
+use Rattle.cut_places.specs.AskedReads.declared.reads.BlockRead.{BlockRead as Asked}
 use Rattle.nvm_model.proofs.RangeLemmas.{range-split}
-use Rattle.sights.specs.declared.block_seen.BlockSeen.{BlockSeen}
-use Rattle.sights.specs.Units.{AreBlocks, block_numbers}
+use Rattle.cut_places.specs.SightsSeen.declared.block_seen.BlockSeen.{BlockSeen}
+use Rattle.cut_places.specs.SightsSeen.Units.{AreBlocks, block_numbers}
 use Rattle.explorer.proofs.ComesLemmas.{CameTo, came_to, done, refused, stopped}
 
 -- the head of what was read, of one block

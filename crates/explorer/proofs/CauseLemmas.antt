@@ -10,13 +10,13 @@ use Rattle.reply_text.specs.Answer.{Answer}
 use Rattle.reply_text.specs.Answer.Answer.{DeviceFailed, PowerLost, Stopped as MountStopped}
 use Rattle.script_text.specs.Action.{Action}
 use Rattle.script_text.specs.Action.Action.{CutIn}
-use Rattle.machine_host.specs.Machine.{Machine}
-use Rattle.machine_host.specs.Commands.{fate, refusal}
-use Rattle.machine_host.specs.Interrupted.{interrupted_answer, stop_in}
-use Rattle.machine_host.specs.Run.{Transcript}
+use Rattle.cut_places.specs.MachineModel.Machine.{Machine}
+use Rattle.cut_places.specs.MachineModel.Commands.{fate, refusal}
+use Rattle.cut_places.specs.MachineModel.Interrupted.{interrupted_answer, stop_in}
+use Rattle.cut_places.specs.MachineModel.Run.{Transcript}
 use Rattle.machine_host.specs.Stands.{Comes, HostState}
-use Rattle.machine_host.specs.Telling.{Tells, counted_by, cuts_after, faults_after}
-use Rattle.outcomes.specs.Stops.{is_of_program}
+use Rattle.cut_places.specs.MachineModel.Telling.{Tells, counted_by, cuts_after, faults_after}
+use Rattle.cut_places.specs.Outcomes.Stops.{is_of_program}
 use Rattle.explorer.specs.declared.came.Came.{Came}
 use Rattle.explorer.specs.declared.came.Came.TheVariants.{Done, Refused, Stopped}
 use Rattle.explorer.specs.declared.fault.ExploreFault.{ExploreFault}

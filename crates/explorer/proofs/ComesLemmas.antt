@@ -13,26 +13,26 @@ use Rattle.reply_text.specs.Answer.{Answer}
 use Rattle.reply_text.specs.Answer.Answer.{Done as Right, DoneBad, Bytes, Ranges, Files, Yes, No, Handle, Happened, NoEvent, BadLines, Attribute, Scarred, PoisonBlock as PoisonedBlock, PoisonVolume as PoisonedVolume, PoisonFile as PoisonedFile, VerifyFile, DeviceFailed, PowerLost, Stopped as MountStopped, Refused as IsRefused, RefusedMeta}
 use Rattle.script_text.specs.Action.{Action}
 use Rattle.script_text.specs.Action.Action.{BRead, BWrite, BAtomic, BMulti, BDiscard, BDiscardIf, BExists, BScar, VLoad, VStore, VSync, VRanges, VPSync, VDiscard, VDiscardIf, VExists, Create, Delete, Rename, Resize, ListFiles, FRead, FWrite, FAtomic, FMulti, FDiscard, FSync, Map, Unmap, Load, Store, Sync, Flush, FlushVerify, DeepFlush, NextEvent, CheckFile, PoisonBlock, PoisonVolume, PoisonFile, PoisonMeta, WeakenFile, WeakenVolume, ClearFile, ClearVolume, Cut, CutIn, FailIn, Restart, Recover, Attr, Evict}
-use Rattle.machine_host.specs.declared.look.Look.{Look}
-use Rattle.machine_host.specs.declared.look.Look.TheVariants.{Once, Again}
-use Rattle.machine_host.specs.Machine.{Machine, Fate}
-use Rattle.machine_host.specs.Machine.Fate.{Gives, Works, Orders, Cuts, Restarts, Recovers}
-use Rattle.machine_host.specs.Commands.{fate, meaning, refusal, unless_refused, while_interrupted}
-use Rattle.machine_host.specs.Interrupted.{interrupted_answer}
-use Rattle.machine_host.specs.Meaning.{Meaning, mode_refusal}
-use Rattle.machine_host.specs.OnAttributes.{told_value, unknown}
-use Rattle.machine_host.specs.OnEvents.{told_event}
-use Rattle.machine_host.specs.OnFlushes.{all_moved, flush_file, flush_through, nothing_done, second_look}
-use Rattle.machine_host.specs.OnMappings.{load_through, read_copy, store_through, with_mapping, write_copy}
-use Rattle.machine_host.specs.OnPages.{fread, fwrite}
-use Rattle.machine_host.specs.Run.{Ends, Takes, Transcript}
+use Rattle.cut_places.specs.MachineModel.declared.look.Look.{Look}
+use Rattle.cut_places.specs.MachineModel.declared.look.Look.TheVariants.{Once, Again}
+use Rattle.cut_places.specs.MachineModel.Machine.{Machine, Fate}
+use Rattle.cut_places.specs.MachineModel.Machine.Fate.{Gives, Works, Orders, Cuts, Restarts, Recovers}
+use Rattle.cut_places.specs.MachineModel.Commands.{fate, meaning, refusal, unless_refused, while_interrupted}
+use Rattle.cut_places.specs.MachineModel.Interrupted.{interrupted_answer}
+use Rattle.cut_places.specs.MachineModel.Meaning.{Meaning, mode_refusal}
+use Rattle.cut_places.specs.MachineModel.OnAttributes.{told_value, unknown}
+use Rattle.cut_places.specs.MachineModel.OnEvents.{told_event}
+use Rattle.cut_places.specs.MachineModel.OnFlushes.{all_moved, flush_file, flush_through, nothing_done, second_look}
+use Rattle.cut_places.specs.MachineModel.OnMappings.{load_through, read_copy, store_through, with_mapping, write_copy}
+use Rattle.cut_places.specs.MachineModel.OnPages.{fread, fwrite}
+use Rattle.cut_places.specs.MachineModel.Run.{Ends, Takes, Transcript}
 use Rattle.machine_host.specs.Stands.{Comes, HostState}
-use Rattle.durable.proofs.RefusalLemmas.{refused_told}
-use Rattle.durable.proofs.RefusedAnswerLemmas.{is_refused}
-use Rattle.outcomes.specs.Stops.{is_of_program, led_to}
+use Rattle.cut_places.proofs.Durable.RefusalLemmas.{refused_told}
+use Rattle.cut_places.proofs.Durable.RefusedAnswerLemmas.{is_refused}
+use Rattle.cut_places.specs.Outcomes.Stops.{is_of_program, led_to}
 use Rattle.explorer.specs.declared.came.Came.TheVariants.{Done, Refused, Stopped}
 use Rattle.explorer.specs.Coming.{came_of}
-use Rattle.sights.proofs.VolumeChangeLemmas.{none_first, none_second}
+use Rattle.cut_places.proofs.SightsSeen.VolumeChangeLemmas.{none_first, none_second}
 
 refused_came : (answer : Answer) → is_refused answer ≡ true → came_of answer ≡ Refused
 refused_came Right is = cc is

@@ -13,8 +13,8 @@ use Rattle.nvm_model.proofs.FileLemmas.{named-is, named-not}
 use Rattle.nvm_model.proofs.OrderLemmas.{before-itself}
 use Rattle.nvm_model.specs.Cell.{Cell}
 use Rattle.mappings.specs.Object.{MappingsState}
-use Rattle.machine_host.specs.Machine.{Machine}
-use Rattle.outcomes.specs.Finds.{armed}
+use Rattle.cut_places.specs.MachineModel.Machine.{Machine}
+use Rattle.cut_places.specs.Outcomes.Finds.{armed}
 use Rattle.cut_places.specs.declared.line.FileLine.{FileLine}
 use Rattle.cut_places.specs.Maps.{uncopied}
 use Rattle.cut_places.specs.SeesFiles.{AreLines, SeesFile, SeesFiles, line_numbers}

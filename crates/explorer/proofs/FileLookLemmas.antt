@@ -23,18 +23,18 @@ use Rattle.reply_text.specs.Answer.{Answer}
 use Rattle.reply_text.specs.Answer.Answer.{Bytes, Files, PoisonFile, Refused as IsRefused}
 use Rattle.reply_text.specs.declared.reply.Why.TheVariants as because
 use Rattle.script_text.specs.Action.Action.{FRead, ListFiles}
-use Rattle.machine_host.specs.declared.mode.Mode.{Mode}
-use Rattle.machine_host.specs.declared.mode.Mode.TheVariants.{On, Off, Unsettled, Stopped}
-use Rattle.machine_host.specs.declared.needs.Needs.TheVariants.{Usable}
-use Rattle.machine_host.specs.Machine.{Machine}
-use Rattle.machine_host.specs.Commands.{fate, meaning, refusal}
-use Rattle.machine_host.specs.Meaning.{first_reason, mode_refusal, most_refusal}
-use Rattle.machine_host.specs.OnFileErrors.{is_weak_line, is_weak_there}
-use Rattle.machine_host.specs.OnPages.{page_answer, pages_named}
+use Rattle.cut_places.specs.MachineModel.declared.mode.Mode.{Mode}
+use Rattle.cut_places.specs.MachineModel.declared.mode.Mode.TheVariants.{On, Off, Unsettled, Stopped}
+use Rattle.cut_places.specs.MachineModel.declared.needs.Needs.TheVariants.{Usable}
+use Rattle.cut_places.specs.MachineModel.Machine.{Machine}
+use Rattle.cut_places.specs.MachineModel.Commands.{fate, meaning, refusal}
+use Rattle.cut_places.specs.MachineModel.Meaning.{first_reason, mode_refusal, most_refusal}
+use Rattle.cut_places.specs.MachineModel.OnFileErrors.{is_weak_line, is_weak_there}
+use Rattle.cut_places.specs.MachineModel.OnPages.{page_answer, pages_named}
 use Rattle.machine_host.specs.Stands.{Comes, HostServes, HostState, Stands}
 use Rattle.machine_host.proofs.FilesCallLemmas.{listed_seen}
-use Rattle.outcomes.specs.Finds.{IsReady}
-use Rattle.sights.specs.Seeing.{or_zeros, seen}
+use Rattle.cut_places.specs.Outcomes.Finds.{IsReady}
+use Rattle.cut_places.specs.SightsSeen.Seeing.{or_zeros, seen}
 use Rattle.explorer.specs.Coming.{came_of}
 use Rattle.explorer.specs.Files.{HasFewPages}
 use Rattle.explorer.specs.Starting.{AreDurable, Begins, HaveDurable}

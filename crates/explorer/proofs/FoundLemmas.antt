@@ -1,6 +1,6 @@
 -- The first place of a cut that shows what is asked, and what is kept there.
 use Rattle.std.proofs.Common.{◌≡◌, None, List, sym, subst}
-use Rattle.outcomes.specs.Seen.{Seen, may_show}
+use Rattle.cut_places.specs.Outcomes.Seen.{Seen, may_show}
 use Rattle.cut_places.specs.Places.{Stop, first_stop}
 use Rattle.explorer.specs.Finding.{IsFound}
 

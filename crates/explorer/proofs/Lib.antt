@@ -9,3 +9,12 @@ pub mod LookingLemmas
 pub mod FileListLemmas
 pub mod NumberLemmas
 pub mod FileLookLemmas
+pub use Rattle.cut_places.proofs as CutPlaces
+pub use Rattle.cut_places.proofs.Durable
+pub use Rattle.machine_host.proofs as MachineHost
+pub use Rattle.cut_places.proofs.MachineModel
+pub use Rattle.value_tables.proofs.OutcomeRuns
+pub use Rattle.cut_places.proofs.Outcomes
+pub use Rattle.cut_places.proofs.SightsSeen
+pub use Rattle.value_tables.proofs as ValueTables
+pub use Rattle.witnesses.proofs as Witnesses

@@ -27,32 +27,32 @@ use Rattle.reply_text.specs.Answer.Answer.{Bytes, Yes, No, PoisonVolume as Poiso
 use Rattle.reply_text.specs.declared.reply.Why.{Why}
 use Rattle.script_text.specs.Action.{Action}
 use Rattle.script_text.specs.Action.Action.{VExists, VLoad}
-use Rattle.machine_host.specs.declared.mode.Mode.TheVariants.{On}
-use Rattle.machine_host.specs.declared.needs.Needs.TheVariants.{Usable}
-use Rattle.machine_host.specs.Machine.{Machine, Fate}
-use Rattle.machine_host.specs.Machine.Fate.{Gives, Works, Orders, Cuts, Restarts, Recovers}
-use Rattle.machine_host.specs.Commands.{fate, meaning, refusal, unless_refused, while_interrupted}
-use Rattle.machine_host.specs.Interrupted.{interrupted_answer}
-use Rattle.machine_host.specs.Meaning.{mode_refusal, most_refusal}
-use Rattle.machine_host.specs.OnVolume.{volume_answer, yes_or_no}
-use Rattle.machine_host.specs.Run.{Ends, Takes, Transcript}
+use Rattle.cut_places.specs.MachineModel.declared.mode.Mode.TheVariants.{On}
+use Rattle.cut_places.specs.MachineModel.declared.needs.Needs.TheVariants.{Usable}
+use Rattle.cut_places.specs.MachineModel.Machine.{Machine, Fate}
+use Rattle.cut_places.specs.MachineModel.Machine.Fate.{Gives, Works, Orders, Cuts, Restarts, Recovers}
+use Rattle.cut_places.specs.MachineModel.Commands.{fate, meaning, refusal, unless_refused, while_interrupted}
+use Rattle.cut_places.specs.MachineModel.Interrupted.{interrupted_answer}
+use Rattle.cut_places.specs.MachineModel.Meaning.{mode_refusal, most_refusal}
+use Rattle.cut_places.specs.MachineModel.OnVolume.{volume_answer, yes_or_no}
+use Rattle.cut_places.specs.MachineModel.Run.{Ends, Takes, Transcript}
 use Rattle.machine_host.specs.Stands.{Comes, HostServes, HostState, Stands}
-use Rattle.durable.specs.Durable.{HaveLines, IsLineThere}
-use Rattle.durable.specs.Place.{is_line_present}
-use Rattle.durable.proofs.PresenceLemmas.{absent_line}
-use Rattle.outcomes.specs.Pages.{PageRead, all_lines_read, lines_read}
-use Rattle.outcomes.specs.Stops.{is_of_program}
-use Rattle.asked_reads.specs.declared.reads.PageRead.{PageRead as AskedPages}
-use Rattle.asked_reads.specs.Reads.{page_read, page_reply, pages_asked}
+use Rattle.cut_places.specs.Durable.Durable.{HaveLines, IsLineThere}
+use Rattle.cut_places.specs.Durable.Place.{is_line_present}
+use Rattle.cut_places.proofs.Durable.PresenceLemmas.{absent_line}
+use Rattle.cut_places.specs.Outcomes.Pages.{PageRead, all_lines_read, lines_read}
+use Rattle.cut_places.specs.Outcomes.Stops.{is_of_program}
+use Rattle.cut_places.specs.AskedReads.declared.reads.PageRead.{PageRead as AskedPages}
+use Rattle.cut_places.specs.AskedReads.Reads.{page_read, page_reply, pages_asked}
 use Rattle.explorer.specs.declared.came.Came.TheVariants.{Done, Stopped}
-use Rattle.sights.specs.declared.line_seen.LineSeen.{LineSeen}
+use Rattle.cut_places.specs.SightsSeen.declared.line_seen.LineSeen.{LineSeen}
 use Rattle.explorer.specs.Coming.{came_of}
 use Rattle.nvm_model.specs.Events.{is_weak_cell}
-use Rattle.sights.specs.Seeing.{or_zeros, seen}
+use Rattle.cut_places.specs.SightsSeen.Seeing.{or_zeros, seen}
 use Rattle.explorer.specs.Starting.{AreDurable, AreOfBytes, Begins}
-use Rattle.sights.specs.Units.{AreLines, line_numbers}
+use Rattle.cut_places.specs.SightsSeen.Units.{AreLines, line_numbers}
 use Rattle.explorer.proofs.ComesLemmas.{came_to, was_done, was_refused}
-use Rattle.sights.proofs.VolumeChangeLemmas.{none_second}
+use Rattle.cut_places.proofs.SightsSeen.VolumeChangeLemmas.{none_second}
 
 -- it was answered as what comes of it is
 abbrev pub GaveIt : Fate → Answer → Machine → Type 0

@@ -9,21 +9,21 @@ use Rattle.word_tables.specs.declared.geometry.Geometry.{Geometry}
 use Rattle.nvm_model.specs.Cell.{touches}
 use Rattle.nvm_model.specs.Numbered.{is_among}
 use Rattle.reply_text.specs.declared.reply.Why.{Why}
-use Rattle.machine_host.specs.Meaning.{most_refusal}
-use Rattle.machine_host.proofs.RefusalLemmas.{read_within}
-use Rattle.outcomes.specs.Blocks.{all_numbers_read, is_block_reply, is_block_reply_by}
-use Rattle.outcomes.specs.Files.{FileRead}
-use Rattle.outcomes.specs.Pages.{all_lines_read, is_reply, is_reply_by, lines_read}
-use Rattle.outcomes.specs.Pages.PageReply.{Poison}
-use Rattle.outcomes.specs.Blocks.BlockReply.{Scar}
-use Rattle.asked_reads.specs.Asking.{blocks_of, files_asked, may_be_file_reply, may_be_replies, volume_asked}
-use Rattle.asked_reads.specs.Reads.{block_read, file_read, page_read}
-use Rattle.asked_reads.specs.declared.question.Question.{Question}
-use Rattle.asked_reads.specs.declared.read.Read.{Read}
-use Rattle.asked_reads.specs.declared.read.Read.TheVariants as reads
-use Rattle.asked_reads.specs.declared.reads.PageRead.{PageRead as PageAsked}
-use Rattle.asked_reads.specs.declared.reads.BlockRead.{BlockRead as BlockAsked}
-use Rattle.asked_reads.specs.declared.reads.FileRead.{FileRead as FileAsked}
+use Rattle.cut_places.specs.MachineModel.Meaning.{most_refusal}
+use Rattle.cut_places.proofs.MachineModel.RefusalLemmas.{read_within}
+use Rattle.cut_places.specs.Outcomes.Blocks.{all_numbers_read, is_block_reply, is_block_reply_by}
+use Rattle.cut_places.specs.Outcomes.Files.{FileRead}
+use Rattle.cut_places.specs.Outcomes.Pages.{all_lines_read, is_reply, is_reply_by, lines_read}
+use Rattle.cut_places.specs.Outcomes.Pages.PageReply.{Poison}
+use Rattle.cut_places.specs.Outcomes.Blocks.BlockReply.{Scar}
+use Rattle.cut_places.specs.AskedReads.Asking.{blocks_of, files_asked, may_be_file_reply, may_be_replies, volume_asked}
+use Rattle.cut_places.specs.AskedReads.Reads.{block_read, file_read, page_read}
+use Rattle.cut_places.specs.AskedReads.declared.question.Question.{Question}
+use Rattle.cut_places.specs.AskedReads.declared.read.Read.{Read}
+use Rattle.cut_places.specs.AskedReads.declared.read.Read.TheVariants as reads
+use Rattle.cut_places.specs.AskedReads.declared.reads.PageRead.{PageRead as PageAsked}
+use Rattle.cut_places.specs.AskedReads.declared.reads.BlockRead.{BlockRead as BlockAsked}
+use Rattle.cut_places.specs.AskedReads.declared.reads.FileRead.{FileRead as FileAsked}
 use Rattle.cut_places.specs.SeesFiles.{are_held, is_held}
 use Rattle.value_tables.specs.Looking.{blocks_looked_at, blocks_touched, file_lines_looked_at, file_lines_touched, lines_looked_at, lines_touched, none_refused}
 use Rattle.value_tables.specs.Rows.{read_refusal}

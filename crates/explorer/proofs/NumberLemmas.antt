@@ -9,10 +9,10 @@ use Rattle.std.specs.declared.cmp.Ordering.TheVariants.{Less, Equal, Greater}
 use Rattle.std.proofs.lemmas.Bool.{and_from, and_parts, cases_lt, eq-eqb, eqb-true}
 use Rattle.std.proofs.lemmas.List.{map-append, take_more}
 use Rattle.std.proofs.lemmas.List.Folds.{list_all-append}
-use Rattle.outcomes.specs.Files.{FileRead}
-use Rattle.outcomes.specs.Pages.{lines_read}
-use Rattle.asked_reads.specs.declared.reads.FileRead.{FileRead as Asked}
-use Rattle.asked_reads.specs.Reads.{file_read, file_reads_asked}
+use Rattle.cut_places.specs.Outcomes.Files.{FileRead}
+use Rattle.cut_places.specs.Outcomes.Pages.{lines_read}
+use Rattle.cut_places.specs.AskedReads.declared.reads.FileRead.{FileRead as Asked}
+use Rattle.cut_places.specs.AskedReads.Reads.{file_read, file_reads_asked}
 use Rattle.cut_places.specs.SeesFiles.{are_held, is_held}
 use Rattle.cut_places.proofs.AllLemmas.{range_so}
 

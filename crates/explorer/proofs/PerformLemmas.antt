@@ -10,18 +10,18 @@ use Rattle.reply_text.specs.declared.reply.Why.TheVariants as because
 use Rattle.script_text.specs.declared.command.Command.{Command}
 use Rattle.script_text.specs.Action.{Action, action_of}
 use Rattle.script_text.specs.Action.Action.{CutIn}
-use Rattle.machine_host.specs.declared.mode.Mode.{Mode}
-use Rattle.machine_host.specs.declared.mode.Mode.TheVariants.{On, Off, Unsettled, Stopped}
-use Rattle.machine_host.specs.declared.needs.Needs.TheVariants.{Anytime}
-use Rattle.machine_host.specs.Machine.{Machine}
-use Rattle.machine_host.specs.Commands.{fate, meaning, refusal, unless_refused}
-use Rattle.machine_host.specs.Meaning.{first_reason, metadata_refusal, mode_refusal, placed}
-use Rattle.machine_host.specs.OnPower.{in_calls}
+use Rattle.cut_places.specs.MachineModel.declared.mode.Mode.{Mode}
+use Rattle.cut_places.specs.MachineModel.declared.mode.Mode.TheVariants.{On, Off, Unsettled, Stopped}
+use Rattle.cut_places.specs.MachineModel.declared.needs.Needs.TheVariants.{Anytime}
+use Rattle.cut_places.specs.MachineModel.Machine.{Machine}
+use Rattle.cut_places.specs.MachineModel.Commands.{fate, meaning, refusal, unless_refused}
+use Rattle.cut_places.specs.MachineModel.Meaning.{first_reason, metadata_refusal, mode_refusal, placed}
+use Rattle.cut_places.specs.MachineModel.OnPower.{in_calls}
 use Rattle.machine_host.specs.Settling.{GoesOn}
 use Rattle.machine_host.specs.Stands.{Comes, HostState, Stands}
-use Rattle.outcomes.specs.Finds.{IsReady, armed}
-use Rattle.outcomes.specs.Stops.{IsProgram, is_of_program, led_to}
-use Rattle.asked_reads.specs.Program.{input_of, inputs_of_lines}
+use Rattle.cut_places.specs.Outcomes.Finds.{IsReady, armed}
+use Rattle.cut_places.specs.Outcomes.Stops.{IsProgram, is_of_program, led_to}
+use Rattle.cut_places.specs.AskedReads.Program.{input_of, inputs_of_lines}
 use Rattle.cut_places.specs.Following.{AreDone}
 use Rattle.cut_places.proofs.GoingLemmas.{at_line}
 use Rattle.cut_places.proofs.StepLemmas.{ready_after}

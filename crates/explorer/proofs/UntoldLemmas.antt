@@ -13,17 +13,17 @@ use Rattle.reply_text.specs.declared.reply.Reply.{Reply}
 use Rattle.reply_text.specs.declared.reply.Reply.TheVariants as reply
 use Rattle.reply_text.specs.declared.reply.Why.TheVariants as because
 use Rattle.script_text.specs.Action.Action.{BRead, VExists, VLoad}
-use Rattle.machine_host.specs.declared.mode.Mode.TheVariants.{On}
-use Rattle.machine_host.specs.declared.needs.Needs.TheVariants.{Usable}
+use Rattle.cut_places.specs.MachineModel.declared.mode.Mode.TheVariants.{On}
+use Rattle.cut_places.specs.MachineModel.declared.needs.Needs.TheVariants.{Usable}
 use Rattle.machine_host.specs.declared.outcome.Outcome.{Outcome}
 use Rattle.machine_host.specs.declared.outcome.Outcome.TheVariants.{Read, Reply as Replied}
-use Rattle.machine_host.specs.Machine.{Machine}
-use Rattle.machine_host.specs.Commands.{fate, meaning, refusal}
-use Rattle.machine_host.specs.Meaning.{first_reason, mode_refusal}
-use Rattle.machine_host.specs.OnVolume.{volume_answer, yes_or_no}
+use Rattle.cut_places.specs.MachineModel.Machine.{Machine}
+use Rattle.cut_places.specs.MachineModel.Commands.{fate, meaning, refusal}
+use Rattle.cut_places.specs.MachineModel.Meaning.{first_reason, mode_refusal}
+use Rattle.cut_places.specs.MachineModel.OnVolume.{volume_answer, yes_or_no}
 use Rattle.machine_host.specs.Responding.{outcome_answer}
 use Rattle.machine_host.specs.Stands.{Comes, HostState}
-use Rattle.outcomes.specs.Finds.{IsReady}
+use Rattle.cut_places.specs.Outcomes.Finds.{IsReady}
 use Rattle.explorer.specs.Stopping.{DeviceStopped, TellsNoBlock}
 use Rattle.explorer.proofs.BlockLookLemmas.{Tells, bad, bytes, none, scarred, tells}
 use Rattle.explorer.proofs.CauseLemmas.{by_answer, cut_off_unless_done, was_cut_off}

@@ -2,7 +2,7 @@
 use Rattle.std.specs.Prelude.{◌≡◌, ◌≤◌, ◌<◌, ◌-◌, ◌++◌, true, List, length, Option, Some, None, option_and_then, option_map, slice_get}
 use Rattle.script_text.specs.declared.command.Command.{Command}
 use Rattle.script_text.specs.Action.{Action, action_of}
-use Rattle.outcomes.specs.Seen.{Seen, may_show}
+use Rattle.cut_places.specs.Outcomes.Seen.{Seen, may_show}
 use Rattle.cut_places.specs.declared.place.CutPlace.{CutPlace}
 use Rattle.cut_places.specs.declared.place.CutPlace.TheVariants.{Before, Inside}
 use Rattle.cut_places.specs.Places.{Stop}

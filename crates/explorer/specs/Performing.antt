@@ -3,11 +3,11 @@ use Rattle.std.specs.Prelude.{◌≡◌, Bool, Option, Some, None, is_none}
 use Rattle.line_device.specs.Device.{Device}
 use Rattle.script_text.specs.declared.command.Command.{Command}
 use Rattle.script_text.specs.Action.{Action, action_of}
-use Rattle.machine_host.specs.Machine.{Machine}
-use Rattle.machine_host.specs.Commands.{fate, refusal}
+use Rattle.cut_places.specs.MachineModel.Machine.{Machine}
+use Rattle.cut_places.specs.MachineModel.Commands.{fate, refusal}
 use Rattle.machine_host.specs.Stands.{HostState, Stands}
-use Rattle.outcomes.specs.Finds.{IsReady}
-use Rattle.outcomes.specs.Stops.{led_to}
+use Rattle.cut_places.specs.Outcomes.Finds.{IsReady}
+use Rattle.cut_places.specs.Outcomes.Stops.{led_to}
 
 -- whether it was done in that state, and that host and device stand for the state behind it, in which nothing is interrupted
 pub record IsDone (h : Machine) (action : Action) (host : HostState) (d : Device) (is : Bool) : Type 0 where

@@ -6,8 +6,8 @@ use Rattle.nvm_model.specs.Listing.{file_name, rises}
 use Rattle.nvm_model.specs.Numbered.{list_from}
 use Rattle.nvm_model.specs.Page.{Page, cell_of}
 use Rattle.nvm_model.specs.Storage.{File}
-use Rattle.machine_host.specs.Machine.{Machine}
-use Rattle.outcomes.specs.Finds.{IsReady}
+use Rattle.cut_places.specs.MachineModel.Machine.{Machine}
+use Rattle.cut_places.specs.Outcomes.Finds.{IsReady}
 
 -- the words of a line of these bytes, each of which has one value
 pub record AreOfBytes (words : List (List ℕ)) : Type 0 where

@@ -1,12 +1,12 @@
 -- What is looked at for a table.
 use Rattle.std.specs.Prelude.{◌≡◌, true, List, map}
 use Rattle.word_tables.specs.declared.geometry.Geometry.{Geometry}
-use Rattle.outcomes.specs.Blocks.{all_numbers_read}
-use Rattle.outcomes.specs.Files.{FileRead}
-use Rattle.outcomes.specs.Pages.{PageRead, all_lines_read}
-use Rattle.asked_reads.specs.Asking.{blocks_of, files_asked, may_be_replies, volume_asked}
-use Rattle.asked_reads.specs.declared.question.Question.{Question}
-use Rattle.asked_reads.specs.declared.read.Read.{Read}
+use Rattle.cut_places.specs.Outcomes.Blocks.{all_numbers_read}
+use Rattle.cut_places.specs.Outcomes.Files.{FileRead}
+use Rattle.cut_places.specs.Outcomes.Pages.{PageRead, all_lines_read}
+use Rattle.cut_places.specs.AskedReads.Asking.{blocks_of, files_asked, may_be_replies, volume_asked}
+use Rattle.cut_places.specs.AskedReads.declared.question.Question.{Question}
+use Rattle.cut_places.specs.AskedReads.declared.read.Read.{Read}
 use Rattle.value_tables.specs.Looking.{blocks_looked_at, file_lines_looked_at, lines_looked_at}
 
 -- reads of files without their names

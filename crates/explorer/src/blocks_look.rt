@@ -5,27 +5,27 @@ ghost use Rattle.nvm_model.specs.Blocks.{nth};
 ghost use Rattle.block_sights.specs.Sights.{sight};
 ghost use Rattle.block_sights.specs.Sights.Sight.{BadLine, Scar, Whole};
 ghost use Rattle.reply_text.specs.Answer.Answer.{Bytes, PoisonBlock, Scarred};
-ghost use Rattle.machine_host.specs.Machine.{Machine};
+ghost use Rattle.cut_places.specs.MachineModel.Machine.{Machine};
 ghost use Rattle.machine_host.specs.Responding.{outcome_answer};
 ghost use Rattle.machine_host.specs.Settling.{GoesOn};
 ghost use Rattle.machine_host.specs.Stands.{Stands};
-ghost use Rattle.outcomes.specs.Blocks.{all_numbers_read, is_block_reply, numbers_read};
-ghost use Rattle.outcomes.specs.Finds.{IsReady};
-ghost use Rattle.asked_reads.specs.Reads.{block_read, block_reply, blocks_asked};
+ghost use Rattle.cut_places.specs.Outcomes.Blocks.{all_numbers_read, is_block_reply, numbers_read};
+ghost use Rattle.cut_places.specs.Outcomes.Finds.{IsReady};
+ghost use Rattle.cut_places.specs.AskedReads.Reads.{block_read, block_reply, blocks_asked};
 ghost use Rattle.explorer.specs.Coming.{came_of};
 ghost use Rattle.explorer.specs.declared.came.Came.TheVariants.{Stopped};
 ghost use Rattle.explorer.specs.Stopping.{DeviceStopped, NoneFell, TellsNoBlock};
-ghost use Rattle.sights.specs.Units.{AreBlocks, block_numbers};
+ghost use Rattle.cut_places.specs.SightsSeen.Units.{AreBlocks, block_numbers};
 
 use crate::fault::ExploreFault;
-use asked_reads::{BlockRead, BlockReply};
 use block_sights::{HeldBlock, Unreadable};
+use cut_places::reads_asked::{BlockRead, BlockReply};
+use cut_places::sights_seen::BlockSeen;
 use line_device::LineDevice;
 use machine_host::{Host, Outcome};
 use nvm_base::BLOCK;
 use reply_text::Reply;
 use script_text::Command;
-use sights::BlockSeen;
 use std::alloc::{AllocError, Global};
 
 /// All blocks that these reads look at, read by read.

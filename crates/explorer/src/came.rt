@@ -7,12 +7,12 @@ ghost use Rattle.explorer.specs.Coming.{came_of};
 use machine_host::Outcome;
 use reply_text::Reply;
 
-/// What an answer says of the command.
+/// What an answer means for the command.
 #[derive(Clone, Copy, Debug, PartialEq, Eq)]
 pub enum Came {
-    /// It is done.
+    /// Command that was done.
     Done,
-    /// It was refused, and changed nothing.
+    /// Command that was refused, and changed nothing.
     Refused,
     /// The device stopped it.
     Stopped,

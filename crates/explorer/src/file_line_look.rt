@@ -1,10 +1,10 @@
 // A line of a file, as it is before the program.
 ghost use Rattle.std.specs.Prelude.{◌≡◌, IfErr, IfOk, OnOk, length};
 ghost use Rattle.nvm_model.specs.Storage.{File};
-ghost use Rattle.machine_host.specs.Machine.{Machine};
+ghost use Rattle.cut_places.specs.MachineModel.Machine.{Machine};
 ghost use Rattle.machine_host.specs.Settling.{GoesOn};
 ghost use Rattle.machine_host.specs.Stands.{Stands};
-ghost use Rattle.sights.specs.Seeing.{seen};
+ghost use Rattle.cut_places.specs.SightsSeen.Seeing.{seen};
 ghost use Rattle.explorer.specs.Files.{HasFewPages, IsListed};
 ghost use Rattle.explorer.specs.Starting.{Begins};
 ghost use Rattle.explorer.specs.Stopping.{DeviceStopped, NoneFell};

@@ -1,17 +1,17 @@
 // The numbers of the lines that a question's reads of files look at.
 ghost use Rattle.std.specs.Prelude.{◌≡◌, ◌+◌, ◌≤◌, ◌^◌, ◌∷◌, [], ℕ, true, IfOk, OnOk};
 ghost use Rattle.std.specs.List.{list_all, range_with_len};
-ghost use Rattle.outcomes.specs.Pages.{lines_read};
-ghost use Rattle.asked_reads.specs.Asking.{may_be_file_reply};
-ghost use Rattle.asked_reads.specs.Reads.{file_read, file_reads_asked, page_reply};
+ghost use Rattle.cut_places.specs.Outcomes.Pages.{lines_read};
+ghost use Rattle.cut_places.specs.AskedReads.Asking.{may_be_file_reply};
+ghost use Rattle.cut_places.specs.AskedReads.Reads.{file_read, file_reads_asked, page_reply};
 ghost use Rattle.cut_places.specs.SeesFiles.{are_held, is_held};
 
-use asked_reads::{FileRead, PageReply};
+use cut_places::reads_asked::{FileRead, PageReply};
 use nvm_base::{Span, lines_of};
 use std::alloc::{AllocError, Global};
 use std::collections::BTreeSet;
 
-/// Those of all reads, each once.
+/// Numbers of the lines that all reads touch, each once.
 pub fn file_numbers(alloc: Global, reads: &[FileRead]) -> Result<Vec<u32>, AllocError>
     requires { list_all may_be_file_reply (file_reads_asked reads.now) ≡ true }
     ensures { IfOk result (λ numbers. are_held numbers.items (file_reads_asked reads.now) ≡ true) }

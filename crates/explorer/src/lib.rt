@@ -16,9 +16,15 @@ mod tabulating;
 mod volume_look;
 mod watching;
 
+pub use cut_places as places;
+pub use cut_places::{durable_laws, reads_asked, sights_seen};
 pub use exploring::explore;
 pub use fault::ExploreFault;
 pub use found::Found;
 pub use looking::look_at;
+pub use machine_host as host;
 pub use tabulating::tabulate;
+pub use value_tables as tables;
+pub use value_tables::runs;
 pub use watching::{Watched, watch};
+pub use witnesses as witness;

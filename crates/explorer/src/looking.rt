@@ -1,12 +1,14 @@
 // What a table looks at.
 ghost use Rattle.std.specs.Prelude.{◌≡◌, ◌*◌, ◌/◌, ◌++◌, ◌∷◌, [], IfOk, List, OnOk};
 ghost use Rattle.word_tables.specs.Bounds.{IsValid};
-ghost use Rattle.outcomes.specs.Pages.PageReply.{Poison};
-ghost use Rattle.asked_reads.specs.Reads.{page_read};
-ghost use Rattle.asked_reads.specs.declared.read.Read.{Read as Asked};
+ghost use Rattle.cut_places.specs.Outcomes.Pages.PageReply.{Poison};
+ghost use Rattle.cut_places.specs.AskedReads.Reads.{page_read};
+ghost use Rattle.cut_places.specs.AskedReads.declared.read.Read.{Read as Asked};
 ghost use Rattle.explorer.specs.Tabulating.{LooksAt};
 
-use asked_reads::{BlockRead, BlockReply, FileRead, PageRead, PageReply, Question, Read};
+use cut_places::reads_asked::{
+    BlockRead, BlockReply, FileRead, PageRead, PageReply, Question, Read,
+};
 use nvm_base::LINE;
 use std::alloc::{AllocError, Global};
 use value_tables::read_refusal;

@@ -2,12 +2,12 @@
 ghost use Rattle.std.specs.Prelude.{◌≡◌, [], ◌∷◌, All, IfErr, IfOk, IsTrue, OnOk, length};
 ghost use Rattle.script_text.specs.Action.{action_of};
 ghost use Rattle.script_text.specs.Parsing.{InBounds};
-ghost use Rattle.machine_host.specs.Machine.{Machine};
+ghost use Rattle.cut_places.specs.MachineModel.Machine.{Machine};
 ghost use Rattle.machine_host.specs.Settling.{GoesOn};
 ghost use Rattle.machine_host.specs.Stands.{Stands};
-ghost use Rattle.outcomes.specs.Finds.{IsReady, armed};
-ghost use Rattle.outcomes.specs.Stops.{IsProgram, is_of_program};
-ghost use Rattle.asked_reads.specs.Program.{IsBounded, input_of, inputs_of_lines};
+ghost use Rattle.cut_places.specs.Outcomes.Finds.{IsReady, armed};
+ghost use Rattle.cut_places.specs.Outcomes.Stops.{IsProgram, is_of_program};
+ghost use Rattle.cut_places.specs.AskedReads.Program.{IsBounded, input_of, inputs_of_lines};
 ghost use Rattle.cut_places.specs.Following.{AreDone};
 ghost use Rattle.explorer.specs.Performing.{IsDone, LineDone};
 ghost use Rattle.explorer.specs.Stopping.{DeviceStopped, NoneFell};

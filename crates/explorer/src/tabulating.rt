@@ -1,11 +1,11 @@
 // What the reads of a look may find, by the places of a cut at which that changes.
 ghost use Rattle.std.specs.Prelude.{◌≡◌, All, IfErr, IfOk, OnOk};
-ghost use Rattle.machine_host.specs.Machine.{Machine};
+ghost use Rattle.cut_places.specs.MachineModel.Machine.{Machine};
 ghost use Rattle.machine_host.specs.Settling.{GoesOn};
 ghost use Rattle.machine_host.specs.Stands.{Stands};
-ghost use Rattle.outcomes.specs.Finds.{armed};
-ghost use Rattle.outcomes.specs.Stops.{IsProgram};
-ghost use Rattle.asked_reads.specs.Program.{IsBounded, inputs_of_lines};
+ghost use Rattle.cut_places.specs.Outcomes.Finds.{armed};
+ghost use Rattle.cut_places.specs.Outcomes.Stops.{IsProgram};
+ghost use Rattle.cut_places.specs.AskedReads.Program.{IsBounded, inputs_of_lines};
 ghost use Rattle.cut_places.specs.Places.{cut_places};
 ghost use Rattle.value_tables.specs.Tables.{table_text};
 ghost use Rattle.explorer.specs.Starting.{Begins};
@@ -14,7 +14,7 @@ ghost use Rattle.explorer.specs.Stopping.{DeviceStopped, NoneFell};
 use crate::fault::ExploreFault;
 use crate::looking::look_at;
 use crate::watching::{Watched, watch};
-use asked_reads::Read;
+use cut_places::reads_asked::Read;
 use line_device::LineDevice;
 use machine_host::Host;
 use nvm_base::Bytes;

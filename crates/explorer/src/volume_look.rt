@@ -1,26 +1,26 @@
 // The lines of the volume that a question's reads look at, as they are before the program.
 ghost use Rattle.std.specs.Prelude.{◌≡◌, ◌+◌, ◌*◌, ◌<◌, ◌≤◌, ◌++◌, ◌^◌, true, IfErr, IfOk, OnOk, length};
 ghost use Rattle.std.specs.List.{list_all};
-ghost use Rattle.machine_host.specs.Machine.{Machine};
+ghost use Rattle.cut_places.specs.MachineModel.Machine.{Machine};
 ghost use Rattle.machine_host.specs.Settling.{GoesOn};
 ghost use Rattle.machine_host.specs.Stands.{Stands};
-ghost use Rattle.outcomes.specs.Pages.{all_lines_read, is_reply, lines_read};
-ghost use Rattle.asked_reads.specs.Reads.{page_read, page_reply, pages_asked};
+ghost use Rattle.cut_places.specs.Outcomes.Pages.{all_lines_read, is_reply, lines_read};
+ghost use Rattle.cut_places.specs.AskedReads.Reads.{page_read, page_reply, pages_asked};
 ghost use Rattle.nvm_model.specs.Events.{is_weak_cell};
-ghost use Rattle.sights.specs.Seeing.{seen};
+ghost use Rattle.cut_places.specs.SightsSeen.Seeing.{seen};
 ghost use Rattle.explorer.specs.Starting.{Begins};
 ghost use Rattle.explorer.specs.Stopping.{DeviceStopped, NoneFell};
-ghost use Rattle.sights.specs.Units.{AreLines, line_numbers};
+ghost use Rattle.cut_places.specs.SightsSeen.Units.{AreLines, line_numbers};
 
 use crate::fault::ExploreFault;
-use asked_reads::{PageRead, PageReply};
+use cut_places::reads_asked::{PageRead, PageReply};
+use cut_places::sights_seen::LineSeen;
 use line_device::LineDevice;
 use line_histories::HeldLine;
 use machine_host::{Host, Outcome};
 use nvm_base::{LINE, LineNo, PAGE, Span, lines_of};
 use reply_text::Reply;
 use script_text::Command;
-use sights::LineSeen;
 use std::alloc::{AllocError, Global};
 
 /// All lines that these reads look at, read by read.

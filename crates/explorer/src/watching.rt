@@ -1,12 +1,12 @@
 // A program is performed on a device, with what a question looks at as it was before.
 ghost use Rattle.std.specs.Prelude.{◌≡◌, true, All, IfErr, IfOk, OnOk, length};
-ghost use Rattle.machine_host.specs.Machine.{Machine};
+ghost use Rattle.cut_places.specs.MachineModel.Machine.{Machine};
 ghost use Rattle.machine_host.specs.Settling.{GoesOn};
 ghost use Rattle.machine_host.specs.Stands.{Stands};
-ghost use Rattle.outcomes.specs.Finds.{armed};
-ghost use Rattle.outcomes.specs.Stops.{IsProgram};
-ghost use Rattle.asked_reads.specs.Asking.{may_be_replies};
-ghost use Rattle.asked_reads.specs.Program.{IsBounded, inputs_of_lines};
+ghost use Rattle.cut_places.specs.Outcomes.Finds.{armed};
+ghost use Rattle.cut_places.specs.Outcomes.Stops.{IsProgram};
+ghost use Rattle.cut_places.specs.AskedReads.Asking.{may_be_replies};
+ghost use Rattle.cut_places.specs.AskedReads.Program.{IsBounded, inputs_of_lines};
 ghost use Rattle.cut_places.specs.Following.{AreDone, Follows, IsWhole, IsWithin};
 ghost use Rattle.explorer.specs.Starting.{Begins};
 ghost use Rattle.explorer.specs.Stopping.{DeviceStopped, NoneFell};
@@ -16,8 +16,8 @@ use crate::fault::ExploreFault;
 use crate::files_look::look_files;
 use crate::performing::{arm, perform};
 use crate::volume_look::look_lines;
-use asked_reads::Question;
 use cut_places::Sight;
+use cut_places::reads_asked::Question;
 use line_device::LineDevice;
 use machine_host::Host;
 use nvm_base::MOST;

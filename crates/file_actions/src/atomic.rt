@@ -71,7 +71,7 @@ pub fn atomic_multiwrite<L: Lines>(
     Ok(())
 }
 
-/// Writes bytes of a file: wherever the power goes, they are there wholly or not at all.
+/// Writes bytes of a file: wherever the power goes, they are written wholly or not at all.
 pub fn atomic_write<L: Lines>(
     dev: &mut L,
     files: &mut FilePages,

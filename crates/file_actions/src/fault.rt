@@ -17,7 +17,7 @@ pub enum ActionFault {
     Overlap,
     /// Too few units would be left.
     Full,
-    /// This line of metadata is bad, the lowest one.
+    /// Lowest line of metadata that is bad.
     Meta(LineNo),
     /// The line at this offset of the file, in bytes, is bad, the lowest one.
     Poison(u64),

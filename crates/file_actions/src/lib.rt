@@ -14,8 +14,6 @@ mod preparing;
 mod ranges;
 mod switching;
 mod syncing;
-#[cfg(test)]
-mod tests;
 
 pub use atomic::{atomic_multiwrite, atomic_write};
 pub use discarding::discard;

@@ -53,7 +53,7 @@ fn covers(range: Span, line: u64) -> bool
     range.start <= LINE * line && LINE * line + LINE <= range.start + range.len
 }
 
-/// How many of so many pages ranges touch.
+/// How many of a number of pages ranges touch.
 pub(crate) fn pages_touched(ranges: &[Span], count: u64) -> u64
     requires ends { All IsInReach ranges.now }
     requires small { count ≤ 256 }

@@ -12,7 +12,7 @@ pub const MOST_TOGETHER: u64 = 272;
 /// The words of all inodes.
 pub(crate) const INODE_WORDS: u64 = 512;
 
-/// Those and the words of all page tables.
+/// The words of all inodes and of all page tables.
 pub(crate) const TABLE_WORDS: u64 = 16_896;
 
 /// Where the log of inodes and page tables stands.

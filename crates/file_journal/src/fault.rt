@@ -18,7 +18,7 @@ pub enum JournalFault {
     Slots,
     /// Too few units would be left.
     Full,
-    /// This line of metadata is bad, the lowest one.
+    /// Lowest line of metadata that is bad.
     Meta(LineNo),
     /// The device failed.
     Device,
@@ -29,7 +29,7 @@ pub enum JournalFault {
 /// Why a journal could not be mounted.
 #[derive(Clone, Copy, Debug, PartialEq, Eq)]
 pub enum MountFault {
-    /// This line of log or tables is bad.
+    /// Line of log or tables that is bad.
     Poisoned(LineNo),
     /// The word at this place is the first that is wrong.
     Bad(u64),

@@ -25,7 +25,7 @@ use line_words::Interruption;
 use nvm_base::{FileEntry, Name};
 
 impl Journal {
-    /// Makes a file of that name and so many pages, which are holes.
+    /// Makes a file of that name and a number of pages, which are holes.
     pub fn create<L: Lines>(
         &mut self,
         dev: &mut L,
@@ -108,7 +108,7 @@ impl Journal {
         Ok(())
     }
 
-    /// Gives a file so many pages: new ones are holes, and the units of those that are cut are given back.
+    /// Gives a file a number of pages: new ones are holes, and the units of those that are cut are given back.
     pub fn resize<L: Lines>(
         &mut self,
         dev: &mut L,

@@ -14,8 +14,6 @@ mod laws;
 mod listing;
 mod mounting;
 mod queries;
-#[cfg(test)]
-mod tests;
 mod units;
 mod words;
 

@@ -64,7 +64,7 @@ fn numbered(first: u64, values: &[u64]) -> WordChanges
     words
 }
 
-/// So many pages from one on become holes.
+/// `count` pages from one on become holes.
 pub(crate) fn holes(first: u64, count: u64) -> Switches
     requires { first + count ≤ 256 }
     ensures { result.items ≡ holes first count }

@@ -92,7 +92,7 @@ fn check_bytes(journal: &Journal, inode: u64, span: Span) -> Result<(), PageFaul
     Ok(())
 }
 
-/// Whether a span ends past so many bytes.
+/// Whether a span ends past a number of bytes.
 pub fn ends_past(size: u64, span: Span) -> bool
     ensures { result ≡ nat_lt size (span.start + span.len) }
 {

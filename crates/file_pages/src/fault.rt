@@ -12,7 +12,7 @@ pub enum PageFault {
     Length,
     /// Too few units would be left.
     Full,
-    /// This line of metadata is bad, the lowest one.
+    /// Lowest line of metadata that is bad.
     Meta(LineNo),
     /// The line at this offset of the file, in bytes, is bad.
     Poison(u64),

@@ -29,7 +29,7 @@ use line_device::Lines;
 use line_words::Interruption;
 use nvm_base::{PAGE, Span, pages_of};
 
-/// Makes the holes that a span touches pages of zeros: all of them are there together, once their zeros are durable.
+/// Makes the holes that a span touches pages of zeros: all of them appear together, once their zeros are durable.
 pub(crate) fn fill<L: Lines>(
     journal: &mut Journal,
     dev: &mut L,

@@ -18,8 +18,6 @@ mod queries;
 mod renewing;
 mod storing;
 mod syncing;
-#[cfg(test)]
-mod tests;
 mod units;
 
 pub use checks::ends_past;

@@ -30,7 +30,7 @@ impl FilePages {
         &self.journal
     }
 
-    /// The same, to be changed.
+    /// Journal of these files, to be changed.
     pub fn journal_mut(&mut self) -> &mut Journal
         ensures* writes_back { sem 𝓛 (lends_journal self.entry result) }
         ensures value { result.now ≡ self.old.journal }

@@ -11,9 +11,9 @@ pub enum FlushFault {
     Length,
     /// There are no spans, or more than 8.
     Limit,
-    /// This line is bad, the lowest one, and nothing was done.
+    /// Lowest line that is bad. Nothing was done.
     Poison(u64),
-    /// This line was lost as it was made durable, the lowest one. The others are durable.
+    /// Lowest line that was lost as it was made durable. The others are durable.
     Verify(u64),
     /// The device failed.
     Device,

@@ -20,7 +20,7 @@ use file_pages::FilePages;
 use line_device::Lines;
 use nvm_base::{LINE, Span};
 
-/// As `flush`, and looks at the lines again: where some became bad, it names the lowest.
+/// Flushes as `flush` does, and looks at the lines again: where some became bad, it names the lowest.
 pub fn flush_verify<L: Lines>(
     dev: &mut L,
     files: &mut FilePages,

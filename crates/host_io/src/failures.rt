@@ -33,7 +33,7 @@ impl Failures {
         }
     }
 
-    /// Counts a call, and says whether it fails.
+    /// Counts a call, and returns whether it fails.
     pub fn next(&mut self) -> bool
         ensures value { result ≡ fails_next self.old }
         ensures after { self.new ≡ schedule_after self.old }

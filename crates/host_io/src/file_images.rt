@@ -40,7 +40,7 @@ impl<R: Files + AllocGlobal> Images for FileImages<'_, R> {
 
     ghost count = { λ s. s.counts };
 
-    /// A file that can't be opened or read is a failure, whether it is there or not.
+    /// A file that can't be opened or read is a failure, whether it exists or not.
     fn fetch(&mut self, name: &str, most: u64) -> Result<Bytes, FetchFault> {
         raise(&mut self.counts.fetches);
         match read_file(self.rt, name, most) {

@@ -32,12 +32,12 @@ pub trait Images {
     ghost use Rattle.host_io.specs.declared.images.ImageCounts.{ImageCounts};
     ghost use Rattle.host_io.specs.Images.{Held, Fetches, KeepsHeld, CountsFetch, CountsReplace};
 
-    /// The bytes held under each name, where they are told.
+    /// The bytes held under each name, where they are reported.
     ghost held: { Self → Option Held };
 
     ghost count: { Self → ImageCounts };
 
-    /// The bytes held under the name, if they are at most so many.
+    /// The bytes held under the name, if they are at most that many.
     fn fetch(&mut self, name: &str, most: u64) -> Result<Bytes, FetchFault>
         ensures answer { Fetches (held self.old) name.now most result }
         ensures held { KeepsHeld (λ _. ⊤) (held self.old) (held self.new) }

@@ -10,8 +10,6 @@ mod mem_source;
 mod sink;
 mod source;
 mod stdio;
-#[cfg(test)]
-mod tests;
 mod writing;
 
 pub use file_images::FileImages;

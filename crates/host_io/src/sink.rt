@@ -15,13 +15,13 @@ pub trait Sink {
     ghost use Rattle.std.specs.Io.KnownBytes.{WriteAppends};
     ghost use Rattle.nvm_base.specs.Counts.{Rose};
 
-    /// The bytes written, where the sink tells them.
+    /// The bytes written, where the sink reports them.
     ghost written: { Self → Option (List ℕ) };
 
     /// How many calls of `write` failed. It never falls, and stands still at its last value.
     ghost count: { Self → ℕ };
 
-    /// Writes some of the bytes, from the front, and says how many.
+    /// Writes some of the bytes, from the front, and returns how many.
     fn write(&mut self, bytes: &[u8]) -> Result<usize, WriteFault>
         ensures bound { IfOk result (λ n. n ≤ length bytes.now) }
         ensures some { IfOk result (λ n. 0 < length bytes.now → 0 < n) }

@@ -11,7 +11,7 @@ pub trait Source {
     ghost use Rattle.std.specs.Io.KnownBytes.{ReadConsumes};
     ghost use Rattle.nvm_base.specs.Counts.{Rose};
 
-    /// The bytes left, where the source tells them.
+    /// The bytes left, where the source reports them.
     ghost left: { Self → Option (List ℕ) };
 
     /// How many calls of `read` failed. It never falls, and stands still at its last value.

@@ -8,7 +8,7 @@ use thiserror::Error;
 /// Why bytes were not read as an image.
 #[derive(Clone, Copy, Debug, PartialEq, Eq, Error)]
 pub enum ImageFault {
-    /// They are none. It is the offset of the first field that is missing, cut short or not allowed, or of the first byte
+    /// Bytes that are no image. The number is the offset of the first field that is missing, cut short or not allowed, or of the first byte
     /// past the end.
     #[error("no image, from byte {0} on")]
     Bad(u64),

@@ -9,8 +9,6 @@ mod formatting;
 mod installing;
 mod laws;
 mod reading;
-#[cfg(test)]
-mod tests;
 mod writing;
 
 pub use extracting::extract;
@@ -25,7 +23,7 @@ use line_device::LineList;
 pub use reading::read;
 pub use writing::write;
 
-/// What an image file says of a device: how many bytes a word has, and its lines.
+/// What an image file has of a device: how many bytes a word has, and its lines.
 #[derive(Debug, Drop)]
 pub struct Image {
     pub unit: u64,

@@ -11,6 +11,3 @@ mod words;
 pub use fault::TableFault;
 pub use inodes::Inodes;
 pub use laws::words_hold_their_slots;
-
-#[cfg(test)]
-mod tests;

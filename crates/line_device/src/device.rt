@@ -10,7 +10,7 @@ use nvm_base::LineNo;
 use std::alloc::AllocError;
 
 pub trait LineDevice: Lines {
-    /// Makes the device one of so many lines of zeros, with the power on. After a refusal nothing is known of its lines.
+    /// Makes the device one of a number of lines of zeros, with the power on. After a refusal nothing is known of its lines.
     /// `unit` is how many bytes of a word a cut keeps or loses together: 8.
     fn reset(&mut self, lines: u64, unit: u64) -> Result<(), ResetFault>
         requires some { 1 ≤ lines }
@@ -21,7 +21,7 @@ pub trait LineDevice: Lines {
         ensures stays_on { IsTrue (Self.state self.old).panel.power → IsTrue (Self.state self.new).panel.power }
         ensures sets_up { SetsUp (setup_outcome result) (Self.state self.old).panel (Self.state self.new).panel };
 
-    /// Makes a line what is told, durably. After a refusal nothing is known of the lines.
+    /// Makes a line the given line, durably. After a refusal nothing is known of the lines.
     fn install(&mut self, line: LineNo, told: &LineState) -> Result<(), ResetFault>
         requires { line.0 < (Self.state self.old).medium.count }
         ensures lines { OnOk result (WritesBack (installed (Self.state self.old).medium line.0 told.now) (Self.state self.new).medium) }
@@ -37,7 +37,7 @@ pub trait LineDevice: Lines {
         ensures power { KeepsPower (outcome result) (Self.state self.old).panel (Self.state self.new).panel }
         ensures sets_up { SetsUp (outcome result) (Self.state self.old).panel (Self.state self.new).panel };
 
-    /// Asks for the write-back of so many lines.
+    /// Asks for the write-back of a number of lines.
     fn evict(&mut self, lines: u64)
         ensures lines { WritesBack (Self.state self.old).medium (Self.state self.new).medium }
         ensures panel { (Self.state self.new).panel ≡ after_evict (Self.state self.old).panel lines };

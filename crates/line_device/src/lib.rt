@@ -10,8 +10,6 @@ mod lines;
 mod order;
 mod plain;
 mod switches;
-#[cfg(test)]
-mod tests;
 
 pub use counts::Counts;
 pub use device::{LineDevice, Peek};

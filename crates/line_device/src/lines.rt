@@ -15,7 +15,7 @@ pub trait Lines {
     /// Its lines, and what it shows beside them.
     ghost state: { Self → Device };
 
-    /// What a load leaves besides, on a device that tells more than its state.
+    /// What a load leaves besides, on a device that reports more than its state.
     ghost load_leaves: { Self → Self → Type 0 } = { λ _ _. Unit {0} };
 
     fn lines(&self) -> u64

@@ -1,4 +1,4 @@
-/// What a device was last told to do by itself, with its number.
+/// What a device was last ordered to do by itself, with its number.
 #[derive(Clone, Copy, Debug, PartialEq, Eq)]
 pub enum Order {
     Cut(u64),

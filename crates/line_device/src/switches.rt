@@ -42,7 +42,7 @@ impl Switches {
         self.counts
     }
 
-    /// Counts a call of `load`, `store`, `persist` or `clear`, and says whether it is done.
+    /// Counts a call of `load`, `store`, `persist` or `clear`, and returns whether it is done.
     pub fn count_call(&mut self) -> Result<(), DeviceFault>
         ensures answer { result ≡ call_answer self.old }
         ensures after { self.new ≡ after_call self.old }

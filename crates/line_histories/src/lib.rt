@@ -3,8 +3,6 @@
 
 mod line;
 mod log;
-#[cfg(test)]
-mod tests;
 mod words;
 
 pub use line::HeldLine;

@@ -81,7 +81,7 @@ impl HeldLine {
         }
     }
 
-    /// The same line once more.
+    /// Copy of the line.
     pub fn duplicate(&self) -> Result<Self, AllocError>
         ensures { IfOk result (λ line. line ≡ self.now) }
     {

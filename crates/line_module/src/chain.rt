@@ -42,7 +42,7 @@ impl Chain {
         }
     }
 
-    /// Whether a word that so many bytes at an offset of the line reach has no room for another value.
+    /// Whether a word that a number of bytes at an offset of the line reach has no room for another value.
     pub fn is_full(&self, at: u64, len: u64) -> bool
         requires some { 0 < len }
         requires fits { at + len ≤ 64 }
@@ -56,7 +56,7 @@ impl Chain {
         false
     }
 
-    /// Each word that so many bytes at an offset of the line reach has one value more, as the line's bytes now have it.
+    /// Each word that a number of bytes at an offset of the line reach has one value more, as the line's bytes now have it.
     pub fn grow(&mut self, at: u64, len: u64, line: &[u8; 64])
         requires some { 0 < len }
         requires fits { at + len ≤ 64 }

@@ -9,8 +9,6 @@ mod module;
 mod order;
 mod state;
 mod survivors;
-#[cfg(test)]
-mod tests;
 
 pub use laws::{
     a_bad_line_is_bare, only_the_oldest_lines_are_written_back, survivors_of_three_words,

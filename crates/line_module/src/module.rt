@@ -15,7 +15,7 @@ use std::alloc::Global;
 mod device;
 mod lines;
 
-/// A memory module. It writes back a line by itself only where a store wants room, and else where it is told to.
+/// A memory module. It writes back a line by itself only where a store wants room, and else where it is ordered to.
 #[derive(Drop)]
 pub struct Module {
     cells: Option<Cells>,

@@ -8,7 +8,7 @@ use crate::chain::Chain;
 use std::alloc::{AllocError, Global};
 use std::marker::Model;
 
-/// So many lines that are not weak may be dirty at a time.
+/// Most lines, not weak, that may be dirty at a time.
 pub const MOST: usize = 1024;
 
 /// Lines in the order in which they became dirty, with the chains of those that may still come. Contracts see the lines.

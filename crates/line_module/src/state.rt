@@ -23,7 +23,7 @@ pub enum Next {
     Same,
 }
 
-/// The state of a line over which so many bytes were put at an offset, so that these are its bytes.
+/// The state of a line over which a number of bytes were put at an offset, so that these are its bytes.
 pub fn grown(
     state: State,
     line: u64,

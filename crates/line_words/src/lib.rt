@@ -5,8 +5,6 @@ mod interruption;
 mod lines;
 mod marks;
 mod renewal;
-#[cfg(test)]
-mod tests;
 mod words;
 
 pub use interruption::{Interruption, stop_of};

@@ -25,7 +25,7 @@ pub fn persist_line<L: Lines>(dev: &mut L, line: u64) -> Result<(), Interruption
     }
 }
 
-/// Makes so many lines durable.
+/// Makes a number of lines durable.
 pub fn persist_lines<L: Lines>(dev: &mut L, first: u64, count: u64) -> Result<(), Interruption>
     requires end { first + count ≤ (L.state dev.old).medium.count }
     requires good_line { (line : ℕ) → first ≤ line → line < first + count → IsGoodLine (L.state dev.old).medium line }

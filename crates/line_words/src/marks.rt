@@ -5,7 +5,7 @@ ghost use Rattle.std.specs.List.{range_with_len};
 use line_device::Lines;
 use nvm_base::LineNo;
 
-/// The lowest bad one of so many lines, counted from the first of them.
+/// The lowest bad one of a number of lines, counted from the first of them.
 pub fn first_bad<L: Lines>(dev: &L, first: u64, count: u64) -> Option<u64>
     requires { first + count ≤ (L.state dev.now).medium.count }
     ensures line { result ≡ position (L.state dev.now).medium.is_bad (range_with_len first count) }

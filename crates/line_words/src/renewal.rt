@@ -37,7 +37,7 @@ fn make_good<L: Lines>(dev: &mut L, line: u64) -> Result<(), Interruption>
     Ok(())
 }
 
-/// The same of lines that follow each other, 64 of the bytes to each.
+/// Renews lines that follow each other, with 64 of the bytes each.
 pub fn renew_lines<L: Lines>(dev: &mut L, first: u64, bytes: &[u8]) -> Result<(), Interruption>
     requires there { first + length bytes.now / 64 ≤ (L.state dev.old).medium.count }
     requires on { IsTrue (L.state dev.old).panel.power }

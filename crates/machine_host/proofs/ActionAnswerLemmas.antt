@@ -7,8 +7,8 @@ use Rattle.file_actions.specs.declared.fault.ActionFault.{ActionFault}
 use Rattle.file_actions.specs.declared.fault.ActionFault.TheVariants as fault
 use Rattle.reply_text.specs.Answer.{IsPrintable}
 use Rattle.reply_text.specs.Room.{most_of}
-use Rattle.machine_host.specs.Interrupted.{stop_in}
-use Rattle.machine_host.specs.OnFileActions.{action_answer}
+use Rattle.machine_model.specs.Interrupted.{stop_in}
+use Rattle.machine_model.specs.OnFileActions.{action_answer}
 use Rattle.machine_host.proofs.CallLemmas.{IsPart}
 
 never_starves : (f : ActionFault) → action_says f ≡ Starves → ⊥

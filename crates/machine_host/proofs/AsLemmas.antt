@@ -10,14 +10,14 @@ use Rattle.pm_volume.proofs.StandingLemmas.{each_pages-then}
 use Rattle.file_journal.proofs.EachFilesLemmas.{each_files-then}
 use Rattle.reply_text.specs.Answer.{Answer}
 use Rattle.script_text.specs.Action.{Action}
-use Rattle.machine_host.specs.Commands.{MayLeaveBlocks, MayLeaveFiles, MayLeaveVolume, fate, longest, spending, unless_refused, while_interrupted}
-use Rattle.machine_host.specs.Interrupted.{Interrupts, may_come}
-use Rattle.machine_host.specs.Machine.{Machine}
-use Rattle.machine_host.specs.Machine.Fate.{Works}
+use Rattle.machine_model.specs.Commands.{MayLeaveBlocks, MayLeaveFiles, MayLeaveVolume, fate, longest, spending, unless_refused, while_interrupted}
+use Rattle.machine_model.specs.Interrupted.{Interrupts, may_come}
+use Rattle.machine_model.specs.Machine.{Machine}
+use Rattle.machine_model.specs.Machine.Fate.{Works}
 use Rattle.machine_host.specs.Responding.{Answered}
-use Rattle.machine_host.specs.Run.{Ends, Transcript, worked}
+use Rattle.machine_model.specs.Run.{Ends, Transcript, worked}
 use Rattle.machine_host.specs.Stands.{Comes, HostState, Stands}
-use Rattle.machine_host.specs.Telling.{Tells}
+use Rattle.machine_model.specs.Telling.{Tells}
 use Rattle.machine_host.proofs.TellingLemmas.{never_on}
 
 -- Of both the same comes, an answer or work; they may spend as much, and leave the same where they are interrupted.

@@ -5,16 +5,16 @@ use Rattle.attributes.specs.Attributes.{attribute}
 use Rattle.script_text.specs.Action.Action.{Attr}
 use Rattle.reply_text.specs.Answer.{Answer, IsPrintable}
 use Rattle.reply_text.specs.Room.{most_of}
-use Rattle.machine_host.specs.Machine.{Machine}
-use Rattle.machine_host.specs.Machine.Fate.{Gives}
-use Rattle.machine_host.specs.Commands.{fate, refusal, unless_refused}
-use Rattle.machine_host.specs.Interrupted.{stop_in}
-use Rattle.machine_host.specs.Meaning.{first_reason, no_reasons}
-use Rattle.machine_host.specs.OnAttributes.{told_value, unknown}
+use Rattle.machine_model.specs.Machine.{Machine}
+use Rattle.machine_model.specs.Machine.Fate.{Gives}
+use Rattle.machine_model.specs.Commands.{fate, refusal, unless_refused}
+use Rattle.machine_model.specs.Interrupted.{stop_in}
+use Rattle.machine_model.specs.Meaning.{first_reason, no_reasons}
+use Rattle.machine_model.specs.OnAttributes.{told_value, unknown}
 use Rattle.machine_host.specs.Responding.{Answered}
 use Rattle.machine_host.specs.Stands.{HostServes, HostState, Comes}
 use Rattle.machine_host.proofs.ExistsLemmas.{same_state}
-use Rattle.machine_host.proofs.RefusalLemmas.{always_allowed}
+use Rattle.machine_model.proofs.RefusalLemmas.{always_allowed}
 
 -- refused or told, by what the table has
 by_value : (h : Machine) (o : Option ℕ) → unless_refused h (first_reason None h.bad_meta (record no_reasons { named = unknown o })) (Gives (told_value o) h) ≡ Gives (told_value o) h

@@ -27,9 +27,9 @@ use Rattle.file_journal.specs.Standing.{EachReadsFiles, files_read}
 use Rattle.file_journal.proofs.EachFilesLemmas.{each_files-then}
 use Rattle.file_journal.proofs.RestartLemmas.{CameBack, files_back}
 use Rattle.recovery.specs.Findings.{first_finding}
-use Rattle.machine_host.specs.Machine.{Machine}
-use Rattle.machine_host.specs.Commands.{MayLeaveBlocks, MayLeaveFiles, MayLeaveVolume}
-use Rattle.machine_host.specs.Restarting.{MayLeaveStorage}
+use Rattle.machine_model.specs.Machine.{Machine}
+use Rattle.machine_model.specs.Commands.{MayLeaveBlocks, MayLeaveFiles, MayLeaveVolume}
+use Rattle.machine_model.specs.Restarting.{MayLeaveStorage}
 use Rattle.machine_host.proofs.VolumeLemmas.{line_there}
 use Rattle.machine_host.proofs.ElsewhereLemmas.{area_of_volume, volume_within}
 use Rattle.machine_host.proofs.LayoutLemmas.{IsGood, is_good, layout-restarted}

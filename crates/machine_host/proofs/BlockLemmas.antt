@@ -26,19 +26,20 @@ use Rattle.reply_text.specs.Answer.{Answer, IsPrintable}
 use Rattle.reply_text.specs.Answer.Answer.{Done}
 use Rattle.reply_text.specs.Room.{most_of}
 use Rattle.machine_host.specs.Responding.{Answered}
-use Rattle.machine_host.proofs.RefusalLemmas.{fate_changing, mapped_first, meta_refused}
+use Rattle.machine_model.proofs.RefusalLemmas.{fate_changing, mapped_first, meta_refused}
 use Rattle.word_tables.specs.Layout.{meta_lines}
 use Rattle.word_tables.specs.declared.geometry.Geometry.{Geometry}
-use Rattle.machine_host.specs.declared.mode.Mode.TheVariants.{On}
-use Rattle.machine_host.specs.Machine.{Machine}
-use Rattle.machine_host.specs.Meaning.{BlocksLeft}
-use Rattle.machine_host.specs.OnBlocks.{changing_blocks, refusal_answer}
-use Rattle.machine_host.specs.Machine.Fate.{Works}
-use Rattle.machine_host.specs.Commands.{MayLeaveBlocks, MayLeaveFiles, MayLeaveVolume, fate, meaning, spending, unless_refused}
-use Rattle.machine_host.specs.Interrupted.{stop_in}
-use Rattle.machine_host.specs.Lines.{HasLayout, MetadataStands, bad_metadata}
-use Rattle.machine_host.specs.declared.mode.Mode.{Mode}
-use Rattle.machine_host.specs.Meaning.{metadata_refusal}
+use Rattle.machine_model.specs.declared.mode.Mode.TheVariants.{On}
+use Rattle.machine_model.specs.Machine.{Machine}
+use Rattle.machine_model.specs.Meaning.{BlocksLeft}
+use Rattle.machine_model.specs.OnBlocks.{changing_blocks, refusal_answer}
+use Rattle.machine_model.specs.Machine.Fate.{Works}
+use Rattle.machine_model.specs.Commands.{MayLeaveBlocks, MayLeaveFiles, MayLeaveVolume, fate, meaning, spending, unless_refused}
+use Rattle.machine_model.specs.Interrupted.{stop_in}
+use Rattle.machine_host.specs.Lines.{HasLayout, MetadataStands}
+use Rattle.machine_model.specs.Lines.{bad_metadata}
+use Rattle.machine_model.specs.declared.mode.Mode.{Mode}
+use Rattle.machine_model.specs.Meaning.{metadata_refusal}
 use Rattle.machine_host.specs.Stands.{HostState, HostServes, AreMounted, Stands, Comes}
 use Rattle.machine_host.specs.Faults.{answer_after, mode_after}
 use Rattle.line_words.specs.Told.Told.{Starves}

@@ -23,14 +23,14 @@ use Rattle.block_device.proofs.ImageLemmas.{each_reads-then, served_reads}
 use Rattle.script_text.specs.Action.Action.{BRead}
 use Rattle.reply_text.specs.Answer.{Answer, IsPrintable}
 use Rattle.reply_text.specs.Answer.Answer.{Bytes}
-use Rattle.machine_host.specs.declared.mode.Mode.TheVariants.{On}
-use Rattle.machine_host.specs.Machine.{Machine}
-use Rattle.machine_host.specs.Commands.{MayLeaveBlocks, fate, longest}
+use Rattle.machine_model.specs.declared.mode.Mode.TheVariants.{On}
+use Rattle.machine_model.specs.Machine.{Machine}
+use Rattle.machine_model.specs.Commands.{MayLeaveBlocks, fate, longest}
 use Rattle.machine_host.specs.Lines.{HasLayout}
 use Rattle.machine_host.specs.Stands.{HostState, HostServes, Stands, Comes}
-use Rattle.machine_host.proofs.RefusalLemmas.{fate_read}
+use Rattle.machine_model.proofs.RefusalLemmas.{fate_read}
 use Rattle.machine_host.specs.Faults.{answer_after, fault_answer, mode_after}
-use Rattle.machine_host.specs.OnBlocks.{refusal_answer}
+use Rattle.machine_model.specs.OnBlocks.{refusal_answer}
 use Rattle.machine_host.specs.Responding.{Answered}
 use Rattle.reply_text.specs.Room.{most_of}
 use Rattle.machine_host.proofs.BlockLemmas.{Called, host_after, blocks_part, change_serves, change_comes}

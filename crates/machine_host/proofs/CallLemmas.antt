@@ -9,16 +9,17 @@ use Rattle.std.proofs.lemmas.Option.{same_Some}
 use Rattle.reply_text.specs.Answer.{Answer, IsPrintable}
 use Rattle.reply_text.specs.Room.{most_of}
 use Rattle.script_text.specs.Action.{Action}
-use Rattle.machine_host.specs.declared.mode.Mode.{Mode}
-use Rattle.machine_host.specs.declared.mode.Mode.TheVariants.{On}
-use Rattle.machine_host.specs.Machine.{Machine}
-use Rattle.machine_host.specs.Machine.Fate.{Gives, Works}
-use Rattle.machine_host.specs.Commands.{spending, unless_refused}
+use Rattle.machine_model.specs.declared.mode.Mode.{Mode}
+use Rattle.machine_model.specs.declared.mode.Mode.TheVariants.{On}
+use Rattle.machine_model.specs.Machine.{Machine}
+use Rattle.machine_model.specs.Machine.Fate.{Gives, Works}
+use Rattle.machine_model.specs.Commands.{spending, unless_refused}
 use Rattle.machine_host.specs.Faults.{answer_after, mode_after, told_answer, told_mode}
-use Rattle.machine_host.specs.Interrupted.{interrupted_mode, stop_in}
+use Rattle.machine_model.specs.Interrupted.{interrupted_mode, stop_in}
 use Rattle.block_device.specs.Images.{AreReadable}
-use Rattle.machine_host.specs.Lines.{HasLayout, bad_metadata}
-use Rattle.machine_host.specs.Run.{answered}
+use Rattle.machine_host.specs.Lines.{HasLayout}
+use Rattle.machine_model.specs.Lines.{bad_metadata}
+use Rattle.machine_model.specs.Run.{answered}
 use Rattle.machine_host.specs.Stands.{HostState, HostServes, Stands, AreMounted, Comes, is_powered}
 use Rattle.machine_host.proofs.StepLemmas.{DeviceLeft, comes_of_done, comes_of_interruption}
 use Rattle.machine_host.proofs.TellingLemmas.{never_on, never_stops, tells_nothing}

@@ -2,7 +2,7 @@
 use Rattle.std.proofs.Common.{refl, arith}
 use Rattle.line_device.specs.Panel.{Panel, Runs, Outcome}
 use Rattle.line_device.proofs.PanelLemmas.{arms_nothing-refl}
-use Rattle.machine_host.specs.Costs.{Opens, mount_calls, mount_persists}
+use Rattle.machine_model.specs.Costs.{Opens, mount_calls, mount_persists}
 
 -- what was not done opens nothing
 pub opens-none : (p : Panel) → Opens p p

@@ -25,8 +25,8 @@ use Rattle.pm_volume.proofs.StandingLemmas.{pages-kept, each_pages-kept, images-
 use Rattle.file_journal.specs.Area.{IsOfFiles}
 use Rattle.file_journal.specs.Object.{JournalServes}
 use Rattle.file_journal.specs.Tables.{AreTables, known_units}
-use Rattle.machine_host.specs.declared.mode.Mode.{Mode}
-use Rattle.machine_host.specs.declared.mode.Mode.TheVariants.{On, Stopped}
+use Rattle.machine_model.specs.declared.mode.Mode.{Mode}
+use Rattle.machine_model.specs.declared.mode.Mode.TheVariants.{On, Stopped}
 use Rattle.machine_host.specs.declared.held.HeldFiles.{HeldFiles}
 use Rattle.machine_host.specs.Stands.{AreMounted, EachMapping, HasRoom, HostServes, HostState, is_powered, IsOnFile}
 use Rattle.machine_host.proofs.FilesAsideLemmas.{files_stand_elsewhere, journal_serves_elsewhere}

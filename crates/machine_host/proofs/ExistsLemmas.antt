@@ -17,21 +17,21 @@ use Rattle.pm_volume.specs.Area.{volume_ranges}
 use Rattle.reply_text.specs.Room.{most_of}
 use Rattle.word_tables.specs.Bounds.{IsValid}
 use Rattle.word_tables.specs.Layout.{size}
-use Rattle.machine_host.specs.OnVolume.{yes_or_no}
+use Rattle.machine_model.specs.OnVolume.{yes_or_no}
 use Rattle.std.proofs.lemmas.Option.{get_or_from_slice_get, slice_get_within}
 use Rattle.reply_text.specs.Answer.{Answer, IsPrintable}
 use Rattle.reply_text.specs.Answer.Answer.{Ranges, Yes, No, Refused}
 use Rattle.reply_text.specs.declared.reply.Why.TheVariants as because
-use Rattle.machine_host.specs.declared.mode.Mode.TheVariants.{On}
-use Rattle.machine_host.specs.Machine.{Machine, Fate}
-use Rattle.machine_host.specs.Meaning.{first_reason, mode_refusal, no_reasons}
-use Rattle.machine_host.specs.declared.needs.Needs.TheVariants.{Usable}
-use Rattle.machine_host.specs.Commands.{fate, refusal, unless_refused}
-use Rattle.machine_host.specs.Machine.Fate.{Gives}
-use Rattle.machine_host.proofs.RefusalLemmas.{first_alone}
+use Rattle.machine_model.specs.declared.mode.Mode.TheVariants.{On}
+use Rattle.machine_model.specs.Machine.{Machine, Fate}
+use Rattle.machine_model.specs.Meaning.{first_reason, mode_refusal, no_reasons}
+use Rattle.machine_model.specs.declared.needs.Needs.TheVariants.{Usable}
+use Rattle.machine_model.specs.Commands.{fate, refusal, unless_refused}
+use Rattle.machine_model.specs.Machine.Fate.{Gives}
+use Rattle.machine_model.proofs.RefusalLemmas.{first_alone}
 use Rattle.machine_host.specs.Stands.{HostState, HostServes, Stands, Comes}
-use Rattle.machine_host.specs.Run.{answered}
-use Rattle.machine_host.specs.Interrupted.{stop_in}
+use Rattle.machine_model.specs.Run.{answered}
+use Rattle.machine_model.specs.Interrupted.{stop_in}
 use Rattle.machine_host.proofs.TellingLemmas.{tells_nothing}
 
 -- a block that is read is there where its state is not absent

@@ -17,15 +17,15 @@ use Rattle.reply_text.specs.Answer.{Answer}
 use Rattle.reply_text.specs.Answer.Answer.{Done, Refused}
 use Rattle.script_text.specs.Action.{Action}
 use Rattle.script_text.specs.Action.Action.{FDiscard}
-use Rattle.machine_host.specs.declared.mode.Mode.TheVariants.{On}
-use Rattle.machine_host.specs.Machine.{Machine, Fate}
-use Rattle.machine_host.specs.Machine.Fate.{Works}
-use Rattle.machine_host.specs.Meaning.{Meaning, first_reason, metadata_refusal, span_refusal}
-use Rattle.machine_host.specs.Commands.{fate, meaning, unless_refused}
-use Rattle.machine_host.specs.OnFileActions.{action_answer, discarded_in, fmulti, written_together}
-use Rattle.machine_host.specs.OnPages.{if_full, pages_used}
+use Rattle.machine_model.specs.declared.mode.Mode.TheVariants.{On}
+use Rattle.machine_model.specs.Machine.{Machine, Fate}
+use Rattle.machine_model.specs.Machine.Fate.{Works}
+use Rattle.machine_model.specs.Meaning.{Meaning, first_reason, metadata_refusal, span_refusal}
+use Rattle.machine_model.specs.Commands.{fate, meaning, unless_refused}
+use Rattle.machine_model.specs.OnFileActions.{action_answer, discarded_in, fmulti, written_together}
+use Rattle.machine_model.specs.OnPages.{if_full, pages_used}
 use Rattle.machine_host.proofs.FilePageFateLemmas.{full_seen, pages_are, there}
-use Rattle.machine_host.proofs.RefusalLemmas.{fate_usable, mapped_first}
+use Rattle.machine_model.proofs.RefusalLemmas.{fate_usable, mapped_first}
 
 -- Of a file that is there, by a journal of the same sizes whose tables use as many units, and the bad lines of metadata.
 module _ (h : Machine) (name : List ℕ) (file : File) (on : h.mode ≡ On) (has : has_file file_name name h.files ≡ true) (found : file_of file_name name h.files ≡ Some file)

@@ -21,11 +21,11 @@ use Rattle.file_pages.proofs.FoundLemmas.{FoundFile, file-found}
 use Rattle.reply_text.specs.Answer.{Answer}
 use Rattle.reply_text.specs.Answer.Answer.{Done}
 use Rattle.script_text.specs.Action.{Action}
-use Rattle.machine_host.specs.declared.mode.Mode.TheVariants.{On}
-use Rattle.machine_host.specs.Commands.{MayLeaveFiles, fate, longest, spending, unless_refused}
+use Rattle.machine_model.specs.declared.mode.Mode.TheVariants.{On}
+use Rattle.machine_model.specs.Commands.{MayLeaveFiles, fate, longest, spending, unless_refused}
 use Rattle.machine_host.specs.Faults.{answer_after, mode_after}
-use Rattle.machine_host.specs.Machine.{Machine}
-use Rattle.machine_host.specs.Machine.Fate.{Works}
+use Rattle.machine_model.specs.Machine.{Machine}
+use Rattle.machine_model.specs.Machine.Fate.{Works}
 use Rattle.machine_host.specs.Responding.{Answered}
 use Rattle.machine_host.specs.Stands.{HasRoom, HostServes, HostState, Stands}
 use Rattle.machine_host.proofs.CallLemmas.{IsPart, on_refused-then}

@@ -19,28 +19,28 @@ use Rattle.file_journal.proofs.DeviceFileLemmas.{device_files-stand}
 use Rattle.file_journal.proofs.ReplaceLemmas.{pages_at_most}
 use Rattle.file_pages.specs.Object.{IsFileAt}
 use Rattle.file_pages.proofs.FoundLemmas.{FoundFile, file-found}
-use Rattle.scrub.specs.Spans.{SpanRefusal, lines_says, span_refusal}
-use Rattle.scrub.specs.Spans.SpanRefusal.{Range, Length}
-use Rattle.scrub.specs.declared.fault.LinesFault.{LinesFault}
-use Rattle.scrub.proofs.FoundLemmas.{bad_touched-among}
+use Rattle.marked_lines.specs.Spans.{SpanRefusal, lines_says, span_refusal}
+use Rattle.marked_lines.specs.Spans.SpanRefusal.{Range, Length}
+use Rattle.marked_lines.specs.declared.fault.LinesFault.{LinesFault}
+use Rattle.marked_lines.proofs.FoundLemmas.{bad_touched-among}
 use Rattle.reply_text.specs.declared.reply.Why.{Why}
 use Rattle.reply_text.specs.declared.reply.Why.TheVariants as because
 use Rattle.reply_text.specs.Answer.Answer.{BadLines, Refused}
 use Rattle.reply_text.specs.Room.{most_of}
 use Rattle.script_text.specs.Action.{Action}
 use Rattle.script_text.specs.Action.Action.{CheckFile}
-use Rattle.machine_host.specs.declared.mode.Mode.TheVariants.{On}
-use Rattle.machine_host.specs.Commands.{fate, longest, unless_refused}
-use Rattle.machine_host.specs.Machine.{Machine}
-use Rattle.machine_host.specs.Machine.Fate.{Gives}
-use Rattle.machine_host.specs.Meaning.{span_refusal as span_refusal_of}
-use Rattle.machine_host.specs.OnPages.{pages_named}
+use Rattle.machine_model.specs.declared.mode.Mode.TheVariants.{On}
+use Rattle.machine_model.specs.Commands.{fate, longest, unless_refused}
+use Rattle.machine_model.specs.Machine.{Machine}
+use Rattle.machine_model.specs.Machine.Fate.{Gives}
+use Rattle.machine_model.specs.Meaning.{span_refusal as span_refusal_of}
+use Rattle.machine_model.specs.OnPages.{pages_named}
 use Rattle.machine_host.specs.Responding.{Answered}
 use Rattle.machine_host.specs.Stands.{Comes, HostServes, HostState, Stands}
 use Rattle.machine_host.proofs.ExistsLemmas.{same_state}
 use Rattle.machine_host.proofs.FileErrorLemmas.{fate_of_file, file_is, pages_seen}
 use Rattle.machine_host.proofs.FilePageLemmas.{right_now}
-use Rattle.machine_host.proofs.RefusalLemmas.{span_allowed}
+use Rattle.machine_model.proofs.RefusalLemmas.{span_allowed}
 
 -- how a refusal of a span is answered
 abbrev pub span_answer : SpanRefusal → Why

@@ -23,7 +23,8 @@ use Rattle.file_pages.specs.Object.{IsFileAt, KeepsMarks, PagesServe}
 use Rattle.file_pages.proofs.FoundLemmas.{FoundFile, file-found}
 use Rattle.scrub.specs.Lines.{IsFileLine}
 use Rattle.scrub.specs.Others.{WritesBackBut}
-use Rattle.scrub.specs.Refusals.{ScrubRefusal, file_clear_refusal, file_refusal, scrub_says}
+use Rattle.marked_lines.specs.Refusals.{ScrubRefusal, file_clear_refusal, file_refusal}
+use Rattle.scrub.specs.Refusals.{scrub_says}
 use Rattle.scrub.specs.declared.fault.ScrubFault.{ScrubFault}
 use Rattle.reply_text.specs.declared.reply.Why.TheVariants as because
 use Rattle.reply_text.specs.Answer.{Answer, IsPrintable}
@@ -31,17 +32,17 @@ use Rattle.reply_text.specs.Answer.Answer.{Done, Refused}
 use Rattle.reply_text.specs.Room.{most_of}
 use Rattle.script_text.specs.Action.{Action}
 use Rattle.script_text.specs.Action.Action.{ClearFile}
-use Rattle.machine_host.specs.declared.mode.Mode.TheVariants.{On}
-use Rattle.machine_host.specs.declared.needs.Needs.TheVariants.{Usable}
-use Rattle.machine_host.specs.Machine.{Machine, Fate}
-use Rattle.machine_host.specs.Machine.Fate.{Gives, Works}
-use Rattle.machine_host.specs.Commands.{MayLeaveFiles, fate, longest, meaning, unless_refused}
+use Rattle.machine_model.specs.declared.mode.Mode.TheVariants.{On}
+use Rattle.machine_model.specs.declared.needs.Needs.TheVariants.{Usable}
+use Rattle.machine_model.specs.Machine.{Machine, Fate}
+use Rattle.machine_model.specs.Machine.Fate.{Gives, Works}
+use Rattle.machine_model.specs.Commands.{MayLeaveFiles, fate, longest, meaning, unless_refused}
 use Rattle.machine_host.specs.Faults.{answer_after, mode_after}
-use Rattle.machine_host.specs.Meaning.{Reasons, first_reason, no_reasons}
-use Rattle.machine_host.specs.OnFileErrors.{marked_in}
-use Rattle.machine_host.specs.OnFiles.{if_missing}
-use Rattle.machine_host.specs.OnMedia.{line_answer}
-use Rattle.machine_host.specs.OnPages.{pages_named}
+use Rattle.machine_model.specs.Meaning.{Reasons, first_reason, no_reasons}
+use Rattle.machine_model.specs.OnFileErrors.{marked_in}
+use Rattle.machine_model.specs.OnFiles.{if_missing}
+use Rattle.machine_model.specs.OnMedia.{line_answer}
+use Rattle.machine_model.specs.OnPages.{pages_named}
 use Rattle.machine_host.specs.Responding.{Answered}
 use Rattle.machine_host.specs.Stands.{Comes, HostServes, HostState, Stands, HasRoom}
 use Rattle.machine_host.proofs.CallLemmas.{on_refused-then}
@@ -50,7 +51,7 @@ use Rattle.machine_host.proofs.FilePageFateLemmas.{pages_are}
 use Rattle.machine_host.proofs.FilePageLemmas.{file_seen, held_now, journal_now, named_seen, right_now, room_now}
 use Rattle.machine_host.proofs.LineLemmas.{line_printable, quiet_line, refused_same, same_serves, scrub_part, short_after}
 use Rattle.machine_host.proofs.MediaLemmas.{IsRefusal, comes_of_marking, files_marked, files_marked_serve}
-use Rattle.machine_host.proofs.RefusalLemmas.{fate_usable, first_alone}
+use Rattle.machine_model.proofs.RefusalLemmas.{fate_usable, first_alone}
 use Rattle.nvm_base.specs.Stock.{Stock}
 use Rattle.machine_host.proofs.RoomLemmas.{room_then, serves_telling, stands_telling, telling}
 use Rattle.machine_host.proofs.WeakFileLemmas.{change-weak}

@@ -18,19 +18,20 @@ use Rattle.file_journal.specs.Standing.{FilesStand}
 use Rattle.file_pages.specs.Object.{IsFileAt, PagesServe, PagesState}
 use Rattle.scrub.specs.Lines.{IsFileLine}
 use Rattle.scrub.specs.Others.{WritesBackBut}
-use Rattle.scrub.specs.Refusals.{file_refusal, place_says, weaken_says}
+use Rattle.marked_lines.specs.Refusals.{file_refusal}
+use Rattle.scrub.specs.Refusals.{place_says, weaken_says}
 use Rattle.scrub.specs.declared.fault.PlaceFault.{PlaceFault}
 use Rattle.scrub.specs.declared.fault.WeakenFault.{WeakenFault}
 use Rattle.reply_text.specs.Answer.{Answer}
 use Rattle.reply_text.specs.Answer.Answer.{Done}
 use Rattle.script_text.specs.Action.Action.{PoisonFile, WeakenFile}
 use Rattle.machine_host.specs.declared.held.HeldFiles.{HeldFiles}
-use Rattle.machine_host.specs.declared.mode.Mode.TheVariants.{On}
+use Rattle.machine_model.specs.declared.mode.Mode.TheVariants.{On}
 use Rattle.machine_host.specs.Faults.{answer_after, IsRoomier}
-use Rattle.machine_host.specs.Machine.{Machine}
-use Rattle.machine_host.specs.OnEvents.{line_event, taken_events}
-use Rattle.machine_host.specs.OnMedia.{line_answer}
-use Rattle.machine_host.specs.OnPages.{pages_named}
+use Rattle.machine_model.specs.Machine.{Machine}
+use Rattle.machine_model.specs.OnEvents.{line_event, taken_events}
+use Rattle.machine_model.specs.OnMedia.{line_answer}
+use Rattle.machine_model.specs.OnPages.{pages_named}
 use Rattle.machine_host.specs.Responding.{Answered}
 use Rattle.machine_host.specs.Stands.{HasRoom, HostServes, HostState, Stands}
 use Rattle.machine_host.proofs.CallLemmas.{on_refused-then}

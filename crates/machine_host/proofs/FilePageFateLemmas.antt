@@ -17,15 +17,15 @@ use Rattle.reply_text.specs.Answer.{Answer}
 use Rattle.reply_text.specs.Answer.Answer.{Done, Bytes, Refused}
 use Rattle.script_text.specs.Action.{Action}
 use Rattle.script_text.specs.Action.Action.{FRead, FWrite}
-use Rattle.machine_host.specs.declared.mode.Mode.TheVariants.{On}
-use Rattle.machine_host.specs.declared.needs.Needs.TheVariants.{Usable}
-use Rattle.machine_host.specs.Machine.{Machine, Fate}
-use Rattle.machine_host.specs.Machine.Fate.{Gives, Works}
-use Rattle.machine_host.specs.Meaning.{metadata_refusal, most_refusal}
-use Rattle.machine_host.specs.Commands.{fate, meaning, unless_refused}
-use Rattle.machine_host.specs.OnFiles.{if_missing}
-use Rattle.machine_host.specs.OnPages.{if_full, page_answer, pages_named, pages_used, stored_in}
-use Rattle.machine_host.proofs.RefusalLemmas.{fate_usable, mapped_first, read_right}
+use Rattle.machine_model.specs.declared.mode.Mode.TheVariants.{On}
+use Rattle.machine_model.specs.declared.needs.Needs.TheVariants.{Usable}
+use Rattle.machine_model.specs.Machine.{Machine, Fate}
+use Rattle.machine_model.specs.Machine.Fate.{Gives, Works}
+use Rattle.machine_model.specs.Meaning.{metadata_refusal, most_refusal}
+use Rattle.machine_model.specs.Commands.{fate, meaning, unless_refused}
+use Rattle.machine_model.specs.OnFiles.{if_missing}
+use Rattle.machine_model.specs.OnPages.{if_full, page_answer, pages_named, pages_used, stored_in}
+use Rattle.machine_model.proofs.RefusalLemmas.{fate_usable, mapped_first, read_right}
 
 -- what a command names is missing
 pub fate_unnamed : (h : Machine) (action : Action) (answer : Answer) → (meaning action).needs ≡ Usable → h.mode ≡ On → ((meaning action).reasons h).named ≡ Some answer → fate h action ≡ Gives answer h

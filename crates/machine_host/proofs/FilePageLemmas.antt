@@ -34,16 +34,16 @@ use Rattle.reply_text.specs.Answer.Answer.{Bytes, Refused, RefusedMeta}
 use Rattle.reply_text.specs.Room.{most_of}
 use Rattle.script_text.specs.Action.{Action}
 use Rattle.script_text.specs.Action.Action.{FRead}
-use Rattle.machine_host.specs.declared.mode.Mode.TheVariants.{On}
-use Rattle.machine_host.specs.declared.needs.Needs.TheVariants.{Usable}
-use Rattle.machine_host.specs.Machine.{Machine}
-use Rattle.machine_host.specs.Commands.{MayLeaveFiles, longest, meaning}
+use Rattle.machine_model.specs.declared.mode.Mode.TheVariants.{On}
+use Rattle.machine_model.specs.declared.needs.Needs.TheVariants.{Usable}
+use Rattle.machine_model.specs.Machine.{Machine}
+use Rattle.machine_model.specs.Commands.{MayLeaveFiles, longest, meaning}
 use Rattle.machine_host.specs.Faults.{answer_after, mode_after}
-use Rattle.machine_host.specs.Interrupted.{stop_in}
-use Rattle.machine_host.specs.Lines.{bad_metadata}
-use Rattle.machine_host.specs.Meaning.{metadata_refusal, most_refusal}
-use Rattle.machine_host.specs.OnFiles.{if_missing}
-use Rattle.machine_host.specs.OnPages.{page_answer, pages_used}
+use Rattle.machine_model.specs.Interrupted.{stop_in}
+use Rattle.machine_model.specs.Lines.{bad_metadata}
+use Rattle.machine_model.specs.Meaning.{metadata_refusal, most_refusal}
+use Rattle.machine_model.specs.OnFiles.{if_missing}
+use Rattle.machine_model.specs.OnPages.{page_answer, pages_used}
 use Rattle.machine_host.specs.Responding.{Answered}
 use Rattle.machine_host.specs.Stands.{HostState, HostServes, Stands, Comes, HasRoom}
 use Rattle.machine_host.proofs.CallLemmas.{IsPart, on_refused-then}
@@ -52,8 +52,8 @@ use Rattle.machine_host.proofs.FilePageCallLemmas.{AreReady, LeavesOthers, Pages
 use Rattle.machine_host.proofs.FilePageFateLemmas.{fate_misread, fate_read_within, fate_unnamed}
 use Rattle.machine_host.proofs.FilesAsideLemmas.{files_stand_elsewhere}
 use Rattle.machine_host.proofs.FilesCallLemmas.{files_seen, journal_sizes, sees_files}
-use Rattle.machine_host.proofs.RefusalLemmas.{meta_refused}
-use Rattle.machine_host.proofs.UsedPageLemmas.{used_seen}
+use Rattle.machine_model.proofs.RefusalLemmas.{meta_refused}
+use Rattle.machine_model.proofs.UsedPageLemmas.{used_seen}
 use Rattle.machine_host.proofs.RoomLemmas.{room_still}
 
 -- answers of pages

@@ -14,12 +14,12 @@ use Rattle.file_pages.proofs.PassLemmas.{pages_on}
 use Rattle.reply_text.specs.Answer.{Answer}
 use Rattle.reply_text.specs.Answer.Answer.{Done}
 use Rattle.script_text.specs.Action.Action.{FWrite}
-use Rattle.machine_host.specs.declared.mode.Mode.TheVariants.{On}
-use Rattle.machine_host.specs.Commands.{MayLeaveFiles}
+use Rattle.machine_model.specs.declared.mode.Mode.TheVariants.{On}
+use Rattle.machine_model.specs.Commands.{MayLeaveFiles}
 use Rattle.machine_host.specs.Faults.{answer_after, mode_after}
-use Rattle.machine_host.specs.Machine.{Machine}
-use Rattle.machine_host.specs.Meaning.{metadata_refusal}
-use Rattle.machine_host.specs.OnPages.{page_answer, pages_named}
+use Rattle.machine_model.specs.Machine.{Machine}
+use Rattle.machine_model.specs.Meaning.{metadata_refusal}
+use Rattle.machine_model.specs.OnPages.{page_answer, pages_named}
 use Rattle.machine_host.specs.Responding.{Answered}
 use Rattle.machine_host.specs.Stands.{HostServes, HostState, Stands}
 use Rattle.machine_host.proofs.FileChangeLemmas.{FileCalled, file_answered, file_called}

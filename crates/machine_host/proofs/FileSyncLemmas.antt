@@ -30,16 +30,16 @@ use Rattle.reply_text.specs.Answer.Answer.{Done, PoisonFile, Refused}
 use Rattle.reply_text.specs.Room.{most_of}
 use Rattle.script_text.specs.Action.Action.{FSync}
 use Rattle.machine_host.specs.declared.held.HeldFiles.{HeldFiles}
-use Rattle.machine_host.specs.declared.mode.Mode.TheVariants.{On}
-use Rattle.machine_host.specs.Commands.{fate, spending, unless_refused}
+use Rattle.machine_model.specs.declared.mode.Mode.TheVariants.{On}
+use Rattle.machine_model.specs.Commands.{fate, spending, unless_refused}
 use Rattle.machine_host.specs.Faults.{answer_after, mode_after}
 use Rattle.machine_host.specs.Flushing.{LinesTold}
-use Rattle.machine_host.specs.Machine.{Machine, Fate}
-use Rattle.machine_host.specs.Machine.Fate.{Works}
-use Rattle.machine_host.specs.OnEvents.{lost_events}
-use Rattle.machine_host.specs.OnFileActions.{action_answer}
-use Rattle.machine_host.specs.OnFlushes.{synced_in}
-use Rattle.machine_host.specs.OnPages.{pages_named}
+use Rattle.machine_model.specs.Machine.{Machine, Fate}
+use Rattle.machine_model.specs.Machine.Fate.{Works}
+use Rattle.machine_model.specs.OnEvents.{lost_events}
+use Rattle.machine_model.specs.OnFileActions.{action_answer}
+use Rattle.machine_model.specs.OnFlushes.{synced_in}
+use Rattle.machine_model.specs.OnPages.{pages_named}
 use Rattle.machine_host.specs.Responding.{Answered}
 use Rattle.machine_host.specs.Stands.{HostServes, HostState, Stands}
 use Rattle.machine_host.proofs.CallLemmas.{printable_after}
@@ -49,7 +49,7 @@ use Rattle.machine_host.proofs.FilePageFateLemmas.{pages_are}
 use Rattle.machine_host.proofs.FilePageLemmas.{file_seen, named_seen, right_now, room_now}
 use Rattle.machine_host.proofs.FilesCallLemmas.{worked_none}
 use Rattle.machine_host.proofs.LostLineLemmas.{err_then, heard_of, room_left, same_refused, told_others}
-use Rattle.machine_host.proofs.RefusalLemmas.{fate_usable}
+use Rattle.machine_model.proofs.RefusalLemmas.{fate_usable}
 use Rattle.machine_host.proofs.SyncedLemmas.{few_there, synced_answered, synced_called}
 use Rattle.machine_host.proofs.VolumeCallLemmas.{short_after}
 

@@ -43,16 +43,17 @@ use Rattle.reply_text.specs.Answer.Answer.{Done}
 use Rattle.reply_text.specs.Room.{most_of}
 use Rattle.script_text.specs.Action.{Action}
 use Rattle.mappings.specs.Object.{MappingsState}
-use Rattle.machine_host.specs.declared.mode.Mode.{Mode}
-use Rattle.machine_host.specs.declared.mode.Mode.TheVariants.{On}
-use Rattle.machine_host.specs.Machine.{Machine}
-use Rattle.machine_host.specs.Machine.Fate.{Works}
-use Rattle.machine_host.specs.Commands.{LeavesBlocks, LeavesFiles, LeavesVolume, MayLeaveBlocks, MayLeaveVolume, fate, meaning, spending, unless_refused}
+use Rattle.machine_model.specs.declared.mode.Mode.{Mode}
+use Rattle.machine_model.specs.declared.mode.Mode.TheVariants.{On}
+use Rattle.machine_model.specs.Machine.{Machine}
+use Rattle.machine_model.specs.Machine.Fate.{Works}
+use Rattle.machine_model.specs.Commands.{LeavesBlocks, LeavesFiles, LeavesVolume, MayLeaveBlocks, MayLeaveVolume, fate, meaning, spending, unless_refused}
 use Rattle.machine_host.specs.Faults.{answer_after, mode_after}
-use Rattle.machine_host.specs.Interrupted.{stop_in}
-use Rattle.machine_host.specs.Lines.{HasLayout, MetadataStands, bad_metadata}
-use Rattle.machine_host.specs.Meaning.{Reasons, metadata_refusal}
-use Rattle.machine_host.specs.OnFiles.{changing_files, journal_answer}
+use Rattle.machine_model.specs.Interrupted.{stop_in}
+use Rattle.machine_host.specs.Lines.{HasLayout, MetadataStands}
+use Rattle.machine_model.specs.Lines.{bad_metadata}
+use Rattle.machine_model.specs.Meaning.{Reasons, metadata_refusal}
+use Rattle.machine_model.specs.OnFiles.{changing_files, journal_answer}
 use Rattle.machine_host.specs.Responding.{Answered}
 use Rattle.machine_host.specs.Stands.{AreMounted, Comes, EachMapping, HostServes, HostState, IsOnFile, Stands, HasRoom}
 use Rattle.machine_host.proofs.CallLemmas.{IsPart, comes_of_call, on_refused-then, printable_after, serves_of_call}
@@ -60,7 +61,7 @@ use Rattle.machine_host.proofs.ElsewhereLemmas.{mounted-files}
 use Rattle.machine_host.proofs.FilesAsideLemmas.{files_not_blocks, files_not_volume, first_not_files}
 use Rattle.machine_host.proofs.FilesFateLemmas.{SeesFiles}
 use Rattle.machine_host.proofs.LayoutLemmas.{kept-outside, layout-outside, metadata-then, same_bad, stays_of_kept}
-use Rattle.machine_host.proofs.RefusalLemmas.{meta_refused}
+use Rattle.machine_model.proofs.RefusalLemmas.{meta_refused}
 use Rattle.machine_host.proofs.StepLemmas.{DeviceLeft, blocks_still, pages_still, stands_done}
 use Rattle.machine_host.proofs.MappedLemmas.{Spares, still_on}
 use Rattle.machine_host.proofs.VolumeCallLemmas.{short_after}

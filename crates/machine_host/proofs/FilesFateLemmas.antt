@@ -24,14 +24,14 @@ use Rattle.reply_text.specs.Answer.{Answer}
 use Rattle.reply_text.specs.Answer.Answer.{Done, Refused}
 use Rattle.reply_text.specs.declared.reply.Why.TheVariants as because
 use Rattle.script_text.specs.Action.Action.{Create, Delete, Rename, Resize}
-use Rattle.machine_host.specs.declared.mode.Mode.TheVariants.{On}
-use Rattle.machine_host.specs.Machine.{Machine, Fate}
-use Rattle.machine_host.specs.Machine.Fate.{Works}
-use Rattle.machine_host.specs.Meaning.{metadata_refusal}
-use Rattle.machine_host.specs.Commands.{fate, unless_refused}
-use Rattle.machine_host.specs.OnFiles.{if_exists, if_many_files, if_many_pages, if_mapped, if_missing, journal_answer}
+use Rattle.machine_model.specs.declared.mode.Mode.TheVariants.{On}
+use Rattle.machine_model.specs.Machine.{Machine, Fate}
+use Rattle.machine_model.specs.Machine.Fate.{Works}
+use Rattle.machine_model.specs.Meaning.{metadata_refusal}
+use Rattle.machine_model.specs.Commands.{fate, unless_refused}
+use Rattle.machine_model.specs.OnFiles.{if_exists, if_many_files, if_many_pages, if_mapped, if_missing, journal_answer}
 use Rattle.machine_host.proofs.MappedLemmas.{Spares, spares-create, spares-rename}
-use Rattle.machine_host.proofs.RefusalLemmas.{fate_usable, first_alone, first_assoc, mapped_first}
+use Rattle.machine_model.proofs.RefusalLemmas.{fate_usable, first_alone, first_assoc, mapped_first}
 
 -- a file that has no mapping is not refused for one
 unmapped : (name : List ℕ) (mappings : List Mapping) (o : Option Answer) → is_mapped name mappings ≡ false → first_there o (if_mapped name mappings) ≡ o

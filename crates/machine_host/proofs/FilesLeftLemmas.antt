@@ -8,9 +8,9 @@ use Rattle.nvm_model.specs.Page.{Page, cell_of}
 use Rattle.nvm_model.specs.Storage.{File, Mapping}
 use Rattle.nvm_model.proofs.FileLeftLemmas.{one_left-same}
 use Rattle.script_text.specs.Action.{Action}
-use Rattle.machine_host.specs.Commands.{LeavesFiles, MayLeaveFiles, meaning}
-use Rattle.machine_host.specs.Meaning.{FilesLeft}
-use Rattle.machine_host.specs.Meaning.FilesLeft.{Unchanged, OldOrNew, StoredInPart, SyncedInPart}
+use Rattle.machine_model.specs.Commands.{LeavesFiles, MayLeaveFiles, meaning}
+use Rattle.machine_model.specs.Meaning.{FilesLeft}
+use Rattle.machine_model.specs.Meaning.FilesLeft.{Unchanged, OldOrNew, StoredInPart, SyncedInPart}
 
 -- a sync that did nothing yet
 sync-none : (spans : List Span) (pages : List Page) → MaySyncAll spans pages pages

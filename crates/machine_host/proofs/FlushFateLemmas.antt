@@ -18,22 +18,22 @@ use Rattle.reply_text.specs.declared.reply.Why.TheVariants as because
 use Rattle.reply_text.specs.Answer.{Answer}
 use Rattle.reply_text.specs.Answer.Answer.{Done, PoisonFile, Refused}
 use Rattle.script_text.specs.Action.{Action}
-use Rattle.machine_host.specs.declared.look.Look.{Look}
-use Rattle.machine_host.specs.declared.mode.Mode.TheVariants.{On}
-use Rattle.machine_host.specs.Commands.{fate, meaning, unless_refused}
+use Rattle.machine_model.specs.declared.look.Look.{Look}
+use Rattle.machine_model.specs.declared.mode.Mode.TheVariants.{On}
+use Rattle.machine_model.specs.Commands.{fate, meaning, unless_refused}
 use Rattle.machine_host.specs.Faults.{flush_answer}
-use Rattle.machine_host.specs.Machine.{Machine}
-use Rattle.machine_host.specs.Machine.Fate.{Works}
-use Rattle.machine_host.specs.Meaning.{Meaning, Reasons, first_reason, no_reasons}
-use Rattle.machine_host.specs.OnFlushes.{all_moved, flush_file, flush_through, flush_with, flushed_answer, moved, nothing_done, spans_refusal, synced_in}
-use Rattle.machine_host.specs.OnMappings.{within_mapping}
-use Rattle.machine_host.specs.OnPages.{pages_named}
+use Rattle.machine_model.specs.Machine.{Machine}
+use Rattle.machine_model.specs.Machine.Fate.{Works}
+use Rattle.machine_model.specs.Meaning.{Meaning, Reasons, first_reason, no_reasons}
+use Rattle.machine_model.specs.OnFlushes.{all_moved, flush_file, flush_through, flush_with, flushed_answer, moved, nothing_done, spans_refusal, synced_in}
+use Rattle.machine_model.specs.OnMappings.{within_mapping}
+use Rattle.machine_model.specs.OnPages.{pages_named}
 use Rattle.machine_host.specs.Responding.{Answered}
 use Rattle.machine_host.specs.Stands.{Comes, HostServes, HostState, Stands}
 use Rattle.machine_host.proofs.ExistsLemmas.{same_state}
 use Rattle.machine_host.proofs.HandledLemmas.{comes_is, fate_given, reasons_are}
-use Rattle.machine_host.proofs.RefusalLemmas.{fate_usable}
-use Rattle.machine_host.specs.OnEvents.{lost_events}
+use Rattle.machine_model.proofs.RefusalLemmas.{fate_usable}
+use Rattle.machine_model.specs.OnEvents.{lost_events}
 
 -- spans of a mapping are some, at most 8, have bytes, and end where it does
 pub record AreRight (size : ℕ) (spans : List Span) : Type 0 where

@@ -30,17 +30,17 @@ use Rattle.reply_text.specs.Answer.{Answer, IsPrintable}
 use Rattle.reply_text.specs.Answer.Answer.{VerifyFile}
 use Rattle.reply_text.specs.Room.{most_of}
 use Rattle.script_text.specs.Action.{Action}
-use Rattle.machine_host.specs.declared.look.Look.{Look}
-use Rattle.machine_host.specs.declared.look.Look.TheVariants.{Once, Again}
-use Rattle.machine_host.specs.declared.mode.Mode.TheVariants.{On}
-use Rattle.machine_host.specs.Commands.{LeavesBlocks, LeavesFiles, LeavesVolume, MayLeaveFiles, meaning, spending}
-use Rattle.machine_host.specs.Costs.{no_spending}
+use Rattle.machine_model.specs.declared.look.Look.{Look}
+use Rattle.machine_model.specs.declared.look.Look.TheVariants.{Once, Again}
+use Rattle.machine_model.specs.declared.mode.Mode.TheVariants.{On}
+use Rattle.machine_model.specs.Commands.{LeavesBlocks, LeavesFiles, LeavesVolume, MayLeaveFiles, meaning, spending}
+use Rattle.machine_model.specs.Costs.{no_spending}
 use Rattle.machine_host.specs.Faults.{answer_after, flush_answer, mode_after, verify_answer}
-use Rattle.machine_host.specs.Interrupted.{stop_in}
-use Rattle.machine_host.specs.Machine.{Machine}
-use Rattle.machine_host.specs.Meaning.{Meaning}
-use Rattle.machine_host.specs.Meaning.FilesLeft.{Unchanged}
-use Rattle.machine_host.specs.OnFlushes.{all_moved, flush_through, flush_with, flushed_answer, lines_touched_by, second_look, spans_refusal}
+use Rattle.machine_model.specs.Interrupted.{stop_in}
+use Rattle.machine_model.specs.Machine.{Machine}
+use Rattle.machine_model.specs.Meaning.{Meaning}
+use Rattle.machine_model.specs.Meaning.FilesLeft.{Unchanged}
+use Rattle.machine_model.specs.OnFlushes.{all_moved, flush_through, flush_with, flushed_answer, lines_touched_by, second_look, spans_refusal}
 use Rattle.machine_host.specs.Responding.{Answered}
 use Rattle.machine_host.specs.Stands.{HostServes, HostState, IsOnFile, Stands, HasRoom}
 use Rattle.machine_host.proofs.CallLemmas.{IsPart, printable_after}
@@ -55,7 +55,7 @@ use Rattle.nvm_base.specs.Stock.{Stock}
 use Rattle.std.specs.Prelude.{OnErr}
 use Rattle.machine_host.specs.declared.held.HeldFiles.{HeldFiles}
 use Rattle.machine_host.specs.Flushing.{FlushSaid, LinesTold, Looked}
-use Rattle.machine_host.specs.OnEvents.{lost_events}
+use Rattle.machine_model.specs.OnEvents.{lost_events}
 use Rattle.machine_host.proofs.LostLineLemmas.{err_then, heard_of, none_flushed, room_left, same_refused, told_others}
 use Rattle.machine_host.proofs.SyncedLemmas.{few_there, synced_answered, synced_called}
 

@@ -16,13 +16,13 @@ use Rattle.reply_text.specs.declared.reply.Why.TheVariants as because
 use Rattle.reply_text.specs.Answer.{Answer}
 use Rattle.reply_text.specs.Answer.Answer.{Bytes, Done, Refused}
 use Rattle.script_text.specs.Action.Action.{FRead, FWrite, Load, Store, Unmap}
-use Rattle.machine_host.specs.declared.mode.Mode.TheVariants.{On}
-use Rattle.machine_host.specs.Commands.{unless_refused}
-use Rattle.machine_host.specs.Machine.{Machine}
-use Rattle.machine_host.specs.Machine.Fate.{Gives}
-use Rattle.machine_host.specs.Meaning.{most_refusal, span_refusal}
-use Rattle.machine_host.specs.OnMappings.{load_through, read_copy, store_through, within_mapping, write_copy}
-use Rattle.machine_host.specs.OnPages.{fread, fwrite}
+use Rattle.machine_model.specs.declared.mode.Mode.TheVariants.{On}
+use Rattle.machine_model.specs.Commands.{unless_refused}
+use Rattle.machine_model.specs.Machine.{Machine}
+use Rattle.machine_model.specs.Machine.Fate.{Gives}
+use Rattle.machine_model.specs.Meaning.{most_refusal, span_refusal}
+use Rattle.machine_model.specs.OnMappings.{load_through, read_copy, store_through, within_mapping, write_copy}
+use Rattle.machine_model.specs.OnPages.{fread, fwrite}
 use Rattle.machine_host.specs.Responding.{Answered, ComesTo, outcome_answer}
 use Rattle.machine_host.specs.declared.outcome.Outcome.{Outcome}
 use Rattle.machine_host.specs.Stands.{Comes, HostServes, HostState, IsOnFile, Stands}
@@ -32,7 +32,7 @@ use Rattle.machine_host.proofs.HandleLemmas.{load_as, store_as}
 use Rattle.machine_host.proofs.HandledLemmas.{all-recopied, all-without, fate_given, no_handle_answered, no_place_answered, refused_answered, remapped_answered}
 use Rattle.machine_host.proofs.MapFateLemmas.{has-found}
 use Rattle.machine_host.proofs.MappedLemmas.{IsAmong, among-of, held_by}
-use Rattle.machine_host.proofs.RefusalLemmas.{fate_usable, read_within}
+use Rattle.machine_model.proofs.RefusalLemmas.{fate_usable, read_within}
 
 -- what is true of all mappings is true of the one with a handle
 reach_of : (P : Mapping → Type 0) (handle : ℕ) (ms : List Mapping) (m : Mapping) → mapping_of handle ms ≡ Some m → All P ms → P m

@@ -10,20 +10,20 @@ use Rattle.reply_text.specs.Answer.{Answer}
 use Rattle.reply_text.specs.Answer.Answer.{Bytes, Done, Refused}
 use Rattle.script_text.specs.Action.{Action}
 use Rattle.script_text.specs.Action.Action.{FRead, FWrite, Load, Store}
-use Rattle.machine_host.specs.declared.mode.Mode.TheVariants.{On}
-use Rattle.machine_host.specs.declared.needs.Needs.TheVariants.{Usable}
-use Rattle.machine_host.specs.Commands.{LeavesBlocks, LeavesFiles, LeavesVolume, MayLeaveBlocks, MayLeaveVolume, meaning, unless_refused}
-use Rattle.machine_host.specs.Costs.{no_spending}
-use Rattle.machine_host.specs.Machine.{Machine}
-use Rattle.machine_host.specs.Machine.Fate.{Gives, Works}
-use Rattle.machine_host.specs.Meaning.{Meaning, Reasons, first_reason, most_refusal, no_reasons, span_refusal}
-use Rattle.machine_host.specs.Meaning.FilesLeft.{Unchanged}
-use Rattle.machine_host.specs.OnFiles.{if_missing}
-use Rattle.machine_host.specs.OnMappings.{by_handle, load_through, read_copy, store_through, within_mapping, write_copy}
-use Rattle.machine_host.specs.OnPages.{fread, fwrite, if_full, page_answer, pages_named, stored_in}
+use Rattle.machine_model.specs.declared.mode.Mode.TheVariants.{On}
+use Rattle.machine_model.specs.declared.needs.Needs.TheVariants.{Usable}
+use Rattle.machine_model.specs.Commands.{LeavesBlocks, LeavesFiles, LeavesVolume, MayLeaveBlocks, MayLeaveVolume, meaning, unless_refused}
+use Rattle.machine_model.specs.Costs.{no_spending}
+use Rattle.machine_model.specs.Machine.{Machine}
+use Rattle.machine_model.specs.Machine.Fate.{Gives, Works}
+use Rattle.machine_model.specs.Meaning.{Meaning, Reasons, first_reason, most_refusal, no_reasons, span_refusal}
+use Rattle.machine_model.specs.Meaning.FilesLeft.{Unchanged}
+use Rattle.machine_model.specs.OnFiles.{if_missing}
+use Rattle.machine_model.specs.OnMappings.{by_handle, load_through, read_copy, store_through, within_mapping, write_copy}
+use Rattle.machine_model.specs.OnPages.{fread, fwrite, if_full, page_answer, pages_named, stored_in}
 use Rattle.machine_host.proofs.AsLemmas.{IsAs}
 use Rattle.machine_host.proofs.FilePageFateLemmas.{bytes_right, pages_are}
-use Rattle.machine_host.proofs.RefusalLemmas.{fate_usable, read_right, read_within, span_allowed}
+use Rattle.machine_model.proofs.RefusalLemmas.{fate_usable, read_right, read_within, span_allowed}
 
 -- a command by handle, as the mapping with that handle has it
 module _ (h : Machine) (a b : Action) (handle room : ℕ) (of : Mapping → Meaning) (row : meaning b ≡ by_handle room handle of) (m : Mapping) (is : mapping_of handle h.mappings ≡ Some m)

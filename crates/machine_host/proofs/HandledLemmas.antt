@@ -13,19 +13,19 @@ use Rattle.reply_text.specs.Answer.{Answer, IsPrintable}
 use Rattle.reply_text.specs.Answer.Answer.{Done, Refused}
 use Rattle.reply_text.specs.Room.{most_of}
 use Rattle.script_text.specs.Action.{Action}
-use Rattle.machine_host.specs.declared.mode.Mode.TheVariants.{On}
-use Rattle.machine_host.specs.declared.needs.Needs.TheVariants.{Usable}
-use Rattle.machine_host.specs.Commands.{MayLeaveFiles, fate, longest, meaning, unless_refused}
-use Rattle.machine_host.specs.Interrupted.{stop_in}
-use Rattle.machine_host.specs.Machine.{Machine}
-use Rattle.machine_host.specs.Machine.Fate.{Gives}
-use Rattle.machine_host.specs.Meaning.{Meaning, Reasons, first_reason, metadata_refusal, no_reasons}
-use Rattle.machine_host.specs.OnMappings.{by_handle, within_mapping}
+use Rattle.machine_model.specs.declared.mode.Mode.TheVariants.{On}
+use Rattle.machine_model.specs.declared.needs.Needs.TheVariants.{Usable}
+use Rattle.machine_model.specs.Commands.{MayLeaveFiles, fate, longest, meaning, unless_refused}
+use Rattle.machine_model.specs.Interrupted.{stop_in}
+use Rattle.machine_model.specs.Machine.{Machine}
+use Rattle.machine_model.specs.Machine.Fate.{Gives}
+use Rattle.machine_model.specs.Meaning.{Meaning, Reasons, first_reason, metadata_refusal, no_reasons}
+use Rattle.machine_model.specs.OnMappings.{by_handle, within_mapping}
 use Rattle.machine_host.specs.Responding.{Answered}
-use Rattle.machine_host.specs.Run.{answered}
+use Rattle.machine_model.specs.Run.{answered}
 use Rattle.machine_host.specs.Stands.{Comes, EachMapping, HostServes, HostState, IsOnFile, Stands}
 use Rattle.machine_host.proofs.ExistsLemmas.{same_state}
-use Rattle.machine_host.proofs.RefusalLemmas.{fate_usable, first_assoc}
+use Rattle.machine_model.proofs.RefusalLemmas.{fate_usable, first_assoc}
 use Rattle.machine_host.proofs.TellingLemmas.{tells_nothing}
 use Rattle.machine_host.proofs.RoomLemmas.{room_still}
 

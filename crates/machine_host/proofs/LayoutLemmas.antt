@@ -17,7 +17,8 @@ use Rattle.word_tables.specs.Bounds.{IsValid}
 use Rattle.word_tables.specs.Layout.{meta_lines, total_lines}
 use Rattle.block_device.specs.Object.{HasGoodMetadata}
 use Rattle.block_device.proofs.ReadLemmas.{Stays}
-use Rattle.machine_host.specs.Lines.{HasLayout, MetadataStands, bad_metadata}
+use Rattle.machine_host.specs.Lines.{HasLayout, MetadataStands}
+use Rattle.machine_model.specs.Lines.{bad_metadata}
 
 -- a layout where no line of metadata is bad
 pub record IsGood (geo : Geometry) (m : Medium) : Type 0 where

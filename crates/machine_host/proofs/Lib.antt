@@ -1,7 +1,5 @@
 pub mod VolumeLemmas
 pub mod TellingLemmas
-pub mod RunLemmas
-pub mod RefusalLemmas
 pub mod CostLemmas
 pub mod LayoutLemmas
 pub mod BadLineLemmas
@@ -17,13 +15,7 @@ pub mod BlockLemmas
 pub mod BlockReadLemmas
 pub mod ExistsLemmas
 pub mod VolumeCallLemmas
-pub mod LastLemmas
 pub mod DepictedLemmas
-pub mod PartStoreLemmas
-pub mod CutLemmas
-pub mod HoleFileLemmas
-pub mod PartLemmas
-pub mod PageRunLemmas
 pub mod LogLineLemmas
 pub mod MountLemmas
 pub mod MountEffectLemmas
@@ -52,7 +44,6 @@ pub mod FlushLemmas
 pub mod FilesLeftLemmas
 pub mod FilesCallLemmas
 mod ListingLemmas
-pub mod UsedPageLemmas
 pub mod FilePageFateLemmas
 pub mod FilePageCallLemmas
 pub mod FilePageLemmas
@@ -76,12 +67,9 @@ mod WeakenLemmas
 pub mod LineLemmas
 pub mod FileErrorLemmas
 pub mod FileCheckLemmas
-mod FailureRunLemmas
-mod FileRunLemmas
-mod PageStoreRunLemmas
-mod FileActionRunLemmas
 mod LineSumLemmas
 mod WeakLineLemmas
 mod WeakFileLemmas
 mod WantingLemmas
 mod WorkLemmas
+pub use Rattle.machine_model.proofs.RunLemmas

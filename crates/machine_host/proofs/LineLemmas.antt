@@ -26,8 +26,9 @@ use Rattle.pm_volume.specs.Images.{EachReadsPages}
 use Rattle.pm_volume.specs.Object.{VolumeState, VolumeHolds, VolumeServes}
 use Rattle.scrub.specs.Lines.{IsLineOf}
 use Rattle.scrub.specs.Others.{WritesBackBut}
-use Rattle.scrub.specs.Refusals.{ScrubRefusal, unit_refusal, block_refusal, clear_refusal, line_refusal, place_refusal, place_says, scrub_says, cell_refusal}
-use Rattle.scrub.specs.Refusals.ScrubRefusal.{Range, Nothing, NotPoisoned}
+use Rattle.marked_lines.specs.Refusals.{ScrubRefusal, unit_refusal, block_refusal, clear_refusal, line_refusal, place_refusal, cell_refusal}
+use Rattle.scrub.specs.Refusals.{place_says, scrub_says}
+use Rattle.marked_lines.specs.Refusals.ScrubRefusal.{Range, Nothing, NotPoisoned}
 use Rattle.scrub.specs.declared.fault.ScrubFault.{ScrubFault}
 use Rattle.scrub.specs.declared.fault.ScrubFault.TheVariants as scrubbing
 use Rattle.scrub.specs.declared.fault.PlaceFault.{PlaceFault}
@@ -37,21 +38,21 @@ use Rattle.script_text.specs.Action.Action.{PoisonBlock, PoisonVolume, WeakenVol
 use Rattle.reply_text.specs.Answer.{Answer, IsPrintable}
 use Rattle.reply_text.specs.Answer.Answer.{Done}
 use Rattle.reply_text.specs.Room.{most_of}
-use Rattle.machine_host.specs.declared.mode.Mode.TheVariants.{On}
-use Rattle.machine_host.specs.Machine.{Machine}
-use Rattle.machine_host.specs.Machine.Fate.{Gives, Works}
-use Rattle.machine_host.specs.Commands.{MayLeaveVolume, fate, longest, meaning, unless_refused}
-use Rattle.machine_host.specs.declared.needs.Needs.TheVariants.{Usable}
-use Rattle.machine_host.specs.Meaning.{metadata_refusal}
+use Rattle.machine_model.specs.declared.mode.Mode.TheVariants.{On}
+use Rattle.machine_model.specs.Machine.{Machine}
+use Rattle.machine_model.specs.Machine.Fate.{Gives, Works}
+use Rattle.machine_model.specs.Commands.{MayLeaveVolume, fate, longest, meaning, unless_refused}
+use Rattle.machine_model.specs.declared.needs.Needs.TheVariants.{Usable}
+use Rattle.machine_model.specs.Meaning.{metadata_refusal}
 use Rattle.machine_host.specs.Faults.{answer_after}
-use Rattle.machine_host.specs.Interrupted.{stop_in}
-use Rattle.machine_host.specs.OnMedia.{line_answer}
+use Rattle.machine_model.specs.Interrupted.{stop_in}
+use Rattle.machine_model.specs.OnMedia.{line_answer}
 use Rattle.machine_host.specs.Responding.{Answered}
 use Rattle.machine_host.specs.Stands.{HostState, HostServes, AreMounted, Stands, Comes}
 use Rattle.machine_host.proofs.CallLemmas.{IsPart, printable_told, short_told, on_refused-then}
 use Rattle.machine_host.proofs.ElsewhereLemmas.{line_of_range}
 use Rattle.machine_host.proofs.MediaLemmas.{IsRefusal, answers_told, blocks_marked, blocks_marked_serve, comes_of_marking, volume_marked, volume_marked_serves}
-use Rattle.machine_host.proofs.RefusalLemmas.{fate_worked, first_alone}
+use Rattle.machine_model.proofs.RefusalLemmas.{fate_worked, first_alone}
 use Rattle.machine_host.proofs.VolumeCallLemmas.{VolumeCalled}
 use Rattle.machine_host.proofs.VolumeLemmas.{volume_behind}
 

@@ -8,13 +8,13 @@ use Rattle.file_journal.specs.Listing.{entry_name, listed}
 use Rattle.file_journal.specs.Tables.{AreTables}
 use Rattle.reply_text.specs.Answer.Answer.{Files}
 use Rattle.script_text.specs.Action.Action.{ListFiles}
-use Rattle.machine_host.specs.declared.mode.Mode.TheVariants.{On}
-use Rattle.machine_host.specs.Machine.Fate.{Gives}
+use Rattle.machine_model.specs.declared.mode.Mode.TheVariants.{On}
+use Rattle.machine_model.specs.Machine.Fate.{Gives}
 use Rattle.machine_host.specs.Responding.{Answered}
 use Rattle.machine_host.specs.Stands.{HostState, HostServes, Comes}
 use Rattle.machine_host.proofs.ExistsLemmas.{same_state}
 use Rattle.machine_host.proofs.FilesCallLemmas.{listed_seen}
-use Rattle.machine_host.proofs.RefusalLemmas.{fate_usable}
+use Rattle.machine_model.proofs.RefusalLemmas.{fate_usable}
 
 pub list_answered : (now host : HostState) (d : Device) (files : List FileEntry) → host ≡ now → now.mode ≡ On → HostServes now d → files ≡ listed host.files.pages.journal.tables
     → Answered ListFiles (Files files) now now d d

@@ -23,7 +23,7 @@ use Rattle.line_device.specs.Medium.{Medium}
 use Rattle.nvm_model.specs.Blocks.{first_there}
 use Rattle.machine_host.specs.declared.held.HeldFiles.{HeldFiles}
 use Rattle.machine_host.specs.Flushing.{HoldsLost, LinesTold}
-use Rattle.machine_host.specs.OnEvents.{lost_events}
+use Rattle.machine_model.specs.OnEvents.{lost_events}
 use Rattle.machine_host.proofs.EventLemmas.{changed_at, weak-flushed}
 use Rattle.machine_host.proofs.FilesCallLemmas.{worked_none}
 

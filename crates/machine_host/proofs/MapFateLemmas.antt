@@ -14,14 +14,14 @@ use Rattle.reply_text.specs.declared.reply.Why.TheVariants as because
 use Rattle.reply_text.specs.Answer.{Answer}
 use Rattle.reply_text.specs.Answer.Answer.{Refused}
 use Rattle.script_text.specs.Action.Action.{Map}
-use Rattle.machine_host.specs.declared.mode.Mode.TheVariants.{On}
-use Rattle.machine_host.specs.Commands.{fate, meaning, unless_refused}
-use Rattle.machine_host.specs.Machine.{Machine}
-use Rattle.machine_host.specs.Meaning.{span_refusal}
-use Rattle.machine_host.specs.OnMappings.{if_full_of_mappings, map_answer}
-use Rattle.machine_host.specs.OnPages.{page_answer}
+use Rattle.machine_model.specs.declared.mode.Mode.TheVariants.{On}
+use Rattle.machine_model.specs.Commands.{fate, meaning, unless_refused}
+use Rattle.machine_model.specs.Machine.{Machine}
+use Rattle.machine_model.specs.Meaning.{span_refusal}
+use Rattle.machine_model.specs.OnMappings.{if_full_of_mappings, map_answer}
+use Rattle.machine_model.specs.OnPages.{page_answer}
 use Rattle.machine_host.specs.Stands.{mappings_of}
-use Rattle.machine_host.proofs.RefusalLemmas.{fate_usable, first_assoc, mapped_first}
+use Rattle.machine_model.proofs.RefusalLemmas.{fate_usable, first_assoc, mapped_first}
 
 -- a file is there exactly where one is found
 pub has-found : (name : List ℕ) (files : List File) (file : File) → file_of file_name name files ≡ Some file → has_file file_name name files ≡ true

@@ -28,16 +28,16 @@ use Rattle.reply_text.specs.Answer.{Answer, IsPrintable, answer_of}
 use Rattle.reply_text.specs.Answer.Answer.{Handle}
 use Rattle.reply_text.specs.Room.{most_of}
 use Rattle.script_text.specs.Action.Action.{Map}
-use Rattle.machine_host.specs.declared.mode.Mode.{Mode}
-use Rattle.machine_host.specs.declared.mode.Mode.TheVariants.{On}
-use Rattle.machine_host.specs.Commands.{fate, unless_refused}
+use Rattle.machine_model.specs.declared.mode.Mode.{Mode}
+use Rattle.machine_model.specs.declared.mode.Mode.TheVariants.{On}
+use Rattle.machine_model.specs.Commands.{fate, unless_refused}
 use Rattle.machine_host.specs.Faults.{answer_after, map_fault_answer, map_fault_mode, mode_after, told_answer, told_mode}
-use Rattle.machine_host.specs.Machine.{Machine}
-use Rattle.machine_host.specs.Machine.Fate.{Gives, Works}
-use Rattle.machine_host.specs.OnMappings.{map_answer, with_mapping}
+use Rattle.machine_model.specs.Machine.{Machine}
+use Rattle.machine_model.specs.Machine.Fate.{Gives, Works}
+use Rattle.machine_model.specs.OnMappings.{map_answer, with_mapping}
 use Rattle.machine_host.specs.Responding.{Answered, Responds}
-use Rattle.machine_host.specs.Run.{answered}
-use Rattle.machine_host.specs.Costs.{no_spending}
+use Rattle.machine_model.specs.Run.{answered}
+use Rattle.machine_model.specs.Costs.{no_spending}
 use Rattle.machine_host.proofs.HandledLemmas.{stands_mapped}
 use Rattle.machine_host.proofs.MapFateLemmas.{fate_map}
 use Rattle.machine_host.proofs.MappedLemmas.{IsAmong, on-of}

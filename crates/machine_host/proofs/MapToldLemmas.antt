@@ -23,8 +23,8 @@ use Rattle.mappings.specs.declared.fault.MapFault.{MapFault}
 use Rattle.mappings.specs.declared.fault.MapFault.TheVariants as fault
 use Rattle.reply_text.specs.Answer.{IsPrintable}
 use Rattle.reply_text.specs.Room.{most_of}
-use Rattle.machine_host.specs.Interrupted.{stop_in}
-use Rattle.machine_host.specs.OnMappings.{map_answer}
+use Rattle.machine_model.specs.Interrupted.{stop_in}
+use Rattle.machine_model.specs.OnMappings.{map_answer}
 use Rattle.machine_host.specs.Stands.{HostState}
 use Rattle.machine_host.proofs.CallLemmas.{IsPart}
 

@@ -12,11 +12,11 @@ use Rattle.reply_text.specs.Answer.{Answer}
 use Rattle.reply_text.specs.Answer.Answer.{Refused}
 use Rattle.script_text.specs.Action.{Action}
 use Rattle.script_text.specs.Action.Action.{Rename}
-use Rattle.machine_host.specs.declared.mode.Mode.TheVariants.{On}
-use Rattle.machine_host.specs.declared.needs.Needs.TheVariants.{Usable}
-use Rattle.machine_host.specs.Commands.{longest, meaning}
-use Rattle.machine_host.specs.Machine.{Machine}
-use Rattle.machine_host.specs.OnFiles.{if_mapped, if_missing}
+use Rattle.machine_model.specs.declared.mode.Mode.TheVariants.{On}
+use Rattle.machine_model.specs.declared.needs.Needs.TheVariants.{Usable}
+use Rattle.machine_model.specs.Commands.{longest, meaning}
+use Rattle.machine_model.specs.Machine.{Machine}
+use Rattle.machine_model.specs.OnFiles.{if_mapped, if_missing}
 use Rattle.machine_host.specs.Responding.{Answered}
 use Rattle.machine_host.specs.Stands.{HostServes, HostState, Stands}
 use Rattle.machine_host.proofs.FilesCallLemmas.{sees_files}

@@ -33,15 +33,15 @@ use Rattle.scrub.specs.Others.{WritesBackBut}
 use Rattle.reply_text.specs.Answer.{Answer}
 use Rattle.reply_text.specs.Answer.Answer.{Done}
 use Rattle.script_text.specs.Action.{Action}
-use Rattle.machine_host.specs.declared.mode.Mode.TheVariants as modes
-use Rattle.machine_host.specs.Machine.{Machine}
-use Rattle.machine_host.specs.Machine.Fate.{Gives}
-use Rattle.machine_host.specs.Commands.{unless_refused}
+use Rattle.machine_model.specs.declared.mode.Mode.TheVariants as modes
+use Rattle.machine_model.specs.Machine.{Machine}
+use Rattle.machine_model.specs.Machine.Fate.{Gives}
+use Rattle.machine_model.specs.Commands.{unless_refused}
 use Rattle.machine_host.specs.Faults.{answer_after, told_answer}
-use Rattle.machine_host.specs.Interrupted.{stop_in}
+use Rattle.machine_model.specs.Interrupted.{stop_in}
 use Rattle.machine_host.specs.Lines.{HasLayout, MetadataStands}
-use Rattle.machine_host.specs.Run.{answered}
-use Rattle.machine_host.specs.Telling.{Tells}
+use Rattle.machine_model.specs.Run.{answered}
+use Rattle.machine_model.specs.Telling.{Tells}
 use Rattle.machine_host.specs.Stands.{HostState, HostServes, AreMounted, Stands, Comes, HasRoom}
 use Rattle.machine_host.proofs.BadLineLemmas.{good_lines}
 use Rattle.machine_host.proofs.MountedLemmas.{readable_served}

@@ -23,7 +23,8 @@ use Rattle.file_journal.specs.Tables.{known_units}
 use Rattle.recovery.specs.Findings.{geometry_told, early_finding, inspection_finding, first_finding}
 use Rattle.recovery.specs.Mounting.{HasDurableBlocks, IsOfLogs}
 use Rattle.recovery.proofs.FindingLemmas.{early_inspection}
-use Rattle.machine_host.specs.Lines.{HasLayout, bad_metadata}
+use Rattle.machine_host.specs.Lines.{HasLayout}
+use Rattle.machine_model.specs.Lines.{bad_metadata}
 use Rattle.machine_host.proofs.BadLineLemmas.{bad_early, bad_found, good_lines}
 use Rattle.machine_host.proofs.LayoutLemmas.{IsGood, is_good, layout-outside, layout-write_back, same_bad}
 use Rattle.machine_host.proofs.MountLemmas.{first_not_area, is_told}

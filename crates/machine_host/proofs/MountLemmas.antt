@@ -51,7 +51,7 @@ use Rattle.recovery.proofs.FindingLemmas.{all_right, early_none as both_none, is
 use Rattle.recovery.proofs.SuperblockLemmas.{early_none, some_lines, some_meta, superblock_told, superblock-outside}
 use Rattle.machine_host.specs.Lines.{HasLayout, MetadataStands}
 use Rattle.machine_host.specs.Stands.{IsFlushed}
-use Rattle.machine_host.specs.Costs.{mount_calls, mount_persists}
+use Rattle.machine_model.specs.Costs.{mount_calls, mount_persists}
 use Rattle.machine_host.proofs.LayoutLemmas.{IsGood, none_bad}
 use Rattle.machine_host.proofs.ElsewhereLemmas.{area_of_volume, first_not_blocks, first_not_volume, volume_within}
 use Rattle.machine_host.proofs.FilesAsideLemmas.{first_not_files}

@@ -31,9 +31,9 @@ use Rattle.file_journal.proofs.ServesLemmas.{served_files}
 use Rattle.recovery.specs.Findings.{geometry_told, first_finding}
 use Rattle.recovery.specs.Mounting.{IsOfLogs}
 use Rattle.recovery.proofs.FindingLemmas.{early_none as both_none, good_metadata as good_found, strong_metadata as strong_found, is_superblock, nothing_early, nothing_found}
-use Rattle.machine_host.specs.declared.mode.Mode.TheVariants as modes
+use Rattle.machine_model.specs.declared.mode.Mode.TheVariants as modes
 use Rattle.machine_host.specs.Lines.{MetadataStands}
-use Rattle.machine_host.specs.Restarting.{holding, reading}
+use Rattle.machine_model.specs.Restarting.{holding, reading}
 use Rattle.machine_host.specs.Stands.{HostState, HostServes, IsFlushed, Stands, is_powered, no_mappings}
 use Rattle.machine_host.proofs.DepictedLemmas.{blocks_depicted, files_depicted, holds_depicted}
 use Rattle.recovery.proofs.SuperblockLemmas.{some_lines}

@@ -24,13 +24,13 @@ use Rattle.file_journal.specs.Tables.{AreTables}
 use Rattle.file_pages.specs.Object.{IsFileAt, PagesState}
 use Rattle.file_pages.proofs.FoundLemmas.{file-found, FoundFile}
 use Rattle.machine_host.specs.declared.held.HeldFiles.{HeldFiles}
-use Rattle.machine_host.specs.OnEvents.{line_event, taken_events}
+use Rattle.machine_model.specs.OnEvents.{line_event, taken_events}
 use Rattle.machine_host.specs.Stands.{HasRoom}
 use Rattle.machine_host.proofs.EventLemmas.{weak-weakened}
 use Rattle.machine_host.proofs.WeakFileLemmas.{change-weak}
 use Rattle.machine_host.proofs.WeakLineLemmas.{lose-weak}
 use Rattle.std.specs.Prelude.{IfErr}
-use Rattle.scrub.specs.Refusals.{ScrubRefusal}
+use Rattle.marked_lines.specs.Refusals.{ScrubRefusal}
 use Rattle.machine_host.proofs.MediaLemmas.{IsRefusal}
 use Rattle.file_pages.proofs.PassLemmas.{length-pages_on, pages_on}
 use Rattle.file_journal.specs.Object.{JournalState}

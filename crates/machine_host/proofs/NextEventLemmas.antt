@@ -6,15 +6,15 @@ use Rattle.nvm_model.specs.Storage.{Event}
 use Rattle.reply_text.specs.Answer.{Answer, IsPrintable}
 use Rattle.reply_text.specs.Room.{most_of}
 use Rattle.script_text.specs.Action.Action.{NextEvent}
-use Rattle.machine_host.specs.declared.mode.Mode.TheVariants.{On}
-use Rattle.machine_host.specs.Interrupted.{stop_in}
-use Rattle.machine_host.specs.Machine.{Machine}
-use Rattle.machine_host.specs.Machine.Fate.{Gives}
-use Rattle.machine_host.specs.OnEvents.{told_event}
+use Rattle.machine_model.specs.declared.mode.Mode.TheVariants.{On}
+use Rattle.machine_model.specs.Interrupted.{stop_in}
+use Rattle.machine_model.specs.Machine.{Machine}
+use Rattle.machine_model.specs.Machine.Fate.{Gives}
+use Rattle.machine_model.specs.OnEvents.{told_event}
 use Rattle.machine_host.specs.Responding.{Answered}
-use Rattle.machine_host.specs.Run.{answered}
+use Rattle.machine_model.specs.Run.{answered}
 use Rattle.machine_host.specs.Stands.{Comes, HostServes, HostState}
-use Rattle.machine_host.proofs.RefusalLemmas.{fate_usable}
+use Rattle.machine_model.proofs.RefusalLemmas.{fate_usable}
 use Rattle.machine_host.proofs.RoomLemmas.{room_still, serves_telling, stands_telling, telling}
 use Rattle.machine_host.proofs.TellingLemmas.{tells_nothing}
 use Rattle.reply_text.specs.Answer.Answer.{Happened, NoEvent}

@@ -23,19 +23,19 @@ use Rattle.scrub.specs.Others.{WritesBackBut}
 use Rattle.scrub.proofs.OthersLemmas.{but-renewed}
 use Rattle.reply_text.specs.Answer.Answer.{Done}
 use Rattle.script_text.specs.Action.Action.{PoisonMeta}
-use Rattle.machine_host.specs.declared.mode.Mode.TheVariants as modes
-use Rattle.machine_host.specs.Machine.{Machine}
-use Rattle.machine_host.specs.Lines.{bad_metadata}
-use Rattle.machine_host.specs.OnMedia.{with_line}
+use Rattle.machine_model.specs.declared.mode.Mode.TheVariants as modes
+use Rattle.machine_model.specs.Machine.{Machine}
+use Rattle.machine_model.specs.Lines.{bad_metadata}
+use Rattle.machine_model.specs.OnMedia.{with_line}
 use Rattle.machine_host.specs.Responding.{Answered}
-use Rattle.machine_host.specs.Run.{answered}
+use Rattle.machine_model.specs.Run.{answered}
 use Rattle.machine_host.specs.Stands.{HostState, HostServes, AreMounted, Stands}
-use Rattle.machine_host.specs.Telling.{Tells}
+use Rattle.machine_model.specs.Telling.{Tells}
 use Rattle.machine_host.proofs.BadLineLemmas.{layout-poisoned, metadata-poisoned}
 use Rattle.machine_host.proofs.LayoutLemmas.{stays_of_kept}
 use Rattle.machine_host.proofs.LineLemmas.{data_behind}
 use Rattle.machine_host.proofs.MediaLemmas.{kept-but}
-use Rattle.machine_host.proofs.RefusalLemmas.{always_allowed, line_right}
+use Rattle.machine_model.proofs.RefusalLemmas.{always_allowed, line_right}
 use Rattle.machine_host.proofs.StepLemmas.{comes_placed}
 use Rattle.machine_host.proofs.TellingLemmas.{tells_nothing}
 use Rattle.machine_host.proofs.VolumeLemmas.{volume_behind}

@@ -9,11 +9,11 @@ use Rattle.nvm_model.specs.Page.{read_pages}
 use Rattle.pm_volume.specs.Presence.{presence_read}
 use Rattle.block_device.specs.Reading.{blocks_read}
 use Rattle.file_journal.specs.Standing.{files_read}
-use Rattle.machine_host.specs.Lines.{bad_metadata}
-use Rattle.machine_host.specs.Machine.{Machine}
-use Rattle.machine_host.specs.Recovering.{RecoveryMayLeave, RecoversTo}
-use Rattle.machine_host.specs.Restarting.{holding, read_with, reading, restarted, stopped_by}
-use Rattle.machine_host.specs.declared.mode.Mode.TheVariants as modes
+use Rattle.machine_model.specs.Lines.{bad_metadata}
+use Rattle.machine_model.specs.Machine.{Machine}
+use Rattle.machine_model.specs.Recovering.{RecoveryMayLeave, RecoversTo}
+use Rattle.machine_model.specs.Restarting.{holding, read_with, reading, restarted, stopped_by}
+use Rattle.machine_model.specs.declared.mode.Mode.TheVariants as modes
 use Rattle.machine_host.proofs.BadLineLemmas.{meta_within}
 use Rattle.machine_host.proofs.LayoutLemmas.{filter-same}
 

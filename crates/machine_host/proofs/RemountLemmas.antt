@@ -37,18 +37,19 @@ use Rattle.file_journal.proofs.TableReadLemmas.{tables_read-replays}
 use Rattle.recovery.specs.Findings.{geometry_told, first_finding}
 use Rattle.reply_text.specs.Answer.{Answer}
 use Rattle.reply_text.specs.Answer.Answer.{DoneBad, Stopped}
-use Rattle.machine_host.specs.declared.mode.Mode.{Mode}
-use Rattle.machine_host.specs.declared.mode.Mode.TheVariants as modes
-use Rattle.machine_host.specs.Machine.{Machine}
-use Rattle.machine_host.specs.Commands.{MayLeaveBlocks, MayLeaveFiles, MayLeaveVolume}
-use Rattle.machine_host.specs.Interrupted.{Interrupts, interrupted_answer, interrupted_mode, stop_in}
-use Rattle.machine_host.specs.Restarting.{holding, mounted_answer, stopped_by}
-use Rattle.machine_host.specs.Recovering.{RecoversTo, RecoveryMayLeave}
-use Rattle.machine_host.specs.Costs.{mount_calls, mount_persists}
-use Rattle.machine_host.specs.Run.{worked}
-use Rattle.machine_host.specs.Telling.{Tells}
+use Rattle.machine_model.specs.declared.mode.Mode.{Mode}
+use Rattle.machine_model.specs.declared.mode.Mode.TheVariants as modes
+use Rattle.machine_model.specs.Machine.{Machine}
+use Rattle.machine_model.specs.Commands.{MayLeaveBlocks, MayLeaveFiles, MayLeaveVolume}
+use Rattle.machine_model.specs.Interrupted.{Interrupts, interrupted_answer, interrupted_mode, stop_in}
+use Rattle.machine_model.specs.Restarting.{holding, mounted_answer, stopped_by}
+use Rattle.machine_model.specs.Recovering.{RecoversTo, RecoveryMayLeave}
+use Rattle.machine_model.specs.Costs.{mount_calls, mount_persists}
+use Rattle.machine_model.specs.Run.{worked}
+use Rattle.machine_model.specs.Telling.{Tells}
 use Rattle.machine_host.specs.Faults.{CountsBad}
-use Rattle.machine_host.specs.Lines.{HasLayout, MetadataStands, bad_metadata}
+use Rattle.machine_host.specs.Lines.{HasLayout, MetadataStands}
+use Rattle.machine_model.specs.Lines.{bad_metadata}
 use Rattle.machine_host.specs.Stands.{HostState, HostServes, Stands, is_powered, just_mounted}
 use Rattle.machine_host.proofs.BadLineLemmas.{bad_found, found_bad, good_lines}
 use Rattle.machine_host.proofs.LogLineLemmas.{file_pages_kept, range_kept}

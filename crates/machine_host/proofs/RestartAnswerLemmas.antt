@@ -18,26 +18,26 @@ use Rattle.script_text.specs.Action.Action.{Recover, Restart}
 use Rattle.reply_text.specs.Answer.{Answer, IsPrintable, answer_of}
 use Rattle.reply_text.specs.Room.{most_of}
 use Rattle.reply_text.specs.declared.reply.Reply.{Reply}
-use Rattle.machine_host.specs.declared.mode.Mode.{Mode}
-use Rattle.machine_host.specs.declared.mode.Mode.TheVariants as modes
-use Rattle.machine_host.specs.declared.needs.Needs.TheVariants.{Unpowered, Failed as AfterFailure}
-use Rattle.machine_host.specs.Machine.{Machine}
-use Rattle.machine_host.specs.Machine.Fate.{Recovers, Restarts}
-use Rattle.machine_host.specs.Commands.{fate, spending}
-use Rattle.machine_host.specs.Costs.{Spending, mount_calls, mount_persists}
-use Rattle.machine_host.specs.Interrupted.{Interrupts, interrupted_answer, may_come}
-use Rattle.machine_host.specs.Recovering.{RecoveryMayLeave}
-use Rattle.machine_host.specs.Restarting.{mounted_answer, restarted}
-use Rattle.machine_host.specs.Run.{Ends, with_start, worked}
-use Rattle.machine_host.specs.Telling.{Tells}
+use Rattle.machine_model.specs.declared.mode.Mode.{Mode}
+use Rattle.machine_model.specs.declared.mode.Mode.TheVariants as modes
+use Rattle.machine_model.specs.declared.needs.Needs.TheVariants.{Unpowered, Failed as AfterFailure}
+use Rattle.machine_model.specs.Machine.{Machine}
+use Rattle.machine_model.specs.Machine.Fate.{Recovers, Restarts}
+use Rattle.machine_model.specs.Commands.{fate, spending}
+use Rattle.machine_model.specs.Costs.{Spending, mount_calls, mount_persists}
+use Rattle.machine_model.specs.Interrupted.{Interrupts, interrupted_answer, may_come}
+use Rattle.machine_model.specs.Recovering.{RecoveryMayLeave}
+use Rattle.machine_model.specs.Restarting.{mounted_answer, restarted}
+use Rattle.machine_model.specs.Run.{Ends, with_start, worked}
+use Rattle.machine_model.specs.Telling.{Tells}
 use Rattle.machine_host.specs.Stands.{HostState, HostServes, Stands, Comes, is_powered, just_mounted}
 use Rattle.machine_host.specs.Faults.{CountsBad, LeftUnmounted, unmounted_answer, unmounted_mode}
-use Rattle.machine_host.specs.Meaning.{mode_refusal}
+use Rattle.machine_model.specs.Meaning.{mode_refusal}
 use Rattle.machine_host.specs.Responding.{Answered, Responds}
 use Rattle.machine_host.proofs.BadLineLemmas.{found_bad}
 use Rattle.machine_host.proofs.CostLemmas.{opens-runs}
 use Rattle.machine_host.proofs.ReadingLemmas.{recovered_back}
-use Rattle.machine_host.proofs.RefusalLemmas.{fate_placed}
+use Rattle.machine_model.proofs.RefusalLemmas.{fate_placed}
 use Rattle.machine_host.proofs.MountEffectLemmas.{Gives, IsMount}
 use Rattle.machine_host.proofs.RemountLemmas.{MountsTo, kept_unmounted, mounts_bad, mounts_done, mounts_stopped, never_wrong, serves_taken, serves_unmounted}
 use Rattle.machine_host.proofs.RestartLemmas.{keeps, serves_back, stands_back}

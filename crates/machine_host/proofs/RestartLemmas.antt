@@ -8,10 +8,11 @@ use Rattle.line_device.proofs.WriteBackLemmas.{write_back-refl}
 use Rattle.word_tables.specs.declared.geometry.Geometry.{Geometry}
 use Rattle.block_device.proofs.ReachLemmas.{keeps_reads-write_back}
 use Rattle.block_device.proofs.RestartLemmas.{each_reads-restarted, each_reads-waits}
-use Rattle.machine_host.specs.declared.mode.Mode.TheVariants as modes
-use Rattle.machine_host.specs.Lines.{MetadataStands, bad_metadata}
-use Rattle.machine_host.specs.Machine.{Machine}
-use Rattle.machine_host.specs.Restarting.{RestartMayLeave, restarted}
+use Rattle.machine_model.specs.declared.mode.Mode.TheVariants as modes
+use Rattle.machine_host.specs.Lines.{MetadataStands}
+use Rattle.machine_model.specs.Lines.{bad_metadata}
+use Rattle.machine_model.specs.Machine.{Machine}
+use Rattle.machine_model.specs.Restarting.{RestartMayLeave, restarted}
 use Rattle.machine_host.specs.Stands.{HostState, HostServes, Stands}
 use Rattle.machine_host.proofs.BackLemmas.{each_back, each_files_back, kept_back, layout_back, readable_back}
 use Rattle.machine_host.proofs.BadLineLemmas.{good_lines}

@@ -8,8 +8,8 @@ use Rattle.nvm_model.specs.Storage.{Event, File}
 use Rattle.file_journal.specs.Standing.{FilesStand}
 use Rattle.file_journal.proofs.DeviceFileLemmas.{device_files-stand}
 use Rattle.machine_host.specs.declared.held.HeldFiles.{HeldFiles}
-use Rattle.machine_host.specs.declared.mode.Mode.TheVariants.{On}
-use Rattle.machine_host.specs.Machine.{Machine}
+use Rattle.machine_model.specs.declared.mode.Mode.TheVariants.{On}
+use Rattle.machine_model.specs.Machine.{Machine}
 use Rattle.machine_host.specs.Stands.{HasRoom, HostServes, HostState, Stands}
 
 -- files become others that have no more weak lines

@@ -16,15 +16,16 @@ use Rattle.recovery.specs.Mounting.{Finds, mount_outcome}
 use Rattle.recovery.specs.declared.Mounted.{Mounted}
 use Rattle.recovery.specs.declared.fault.MountFault.{MountFault}
 use Rattle.recovery.specs.declared.fault.MountFault.TheVariants as fault
-use Rattle.machine_host.specs.declared.mode.Mode.{Mode}
-use Rattle.machine_host.specs.declared.mode.Mode.TheVariants as modes
-use Rattle.machine_host.specs.Machine.{Machine}
-use Rattle.machine_host.specs.Recovering.{RecoveryMayLeave}
-use Rattle.machine_host.specs.Restarting.{RestartMayLeave, restarted}
-use Rattle.machine_host.specs.Costs.{mount_calls, mount_persists}
+use Rattle.machine_model.specs.declared.mode.Mode.{Mode}
+use Rattle.machine_model.specs.declared.mode.Mode.TheVariants as modes
+use Rattle.machine_model.specs.Machine.{Machine}
+use Rattle.machine_model.specs.Recovering.{RecoveryMayLeave}
+use Rattle.machine_model.specs.Restarting.{RestartMayLeave, restarted}
+use Rattle.machine_model.specs.Costs.{mount_calls, mount_persists}
 use Rattle.machine_host.specs.Stands.{HostState, HostServes, Stands, is_powered, just_mounted}
-use Rattle.machine_host.specs.Telling.{bumped_by}
-use Rattle.machine_host.specs.Settling.{Asks, IsQuiet, IsSettled, LeavesUnmounted, StaysUnmounted, LeftUnsettled, MountsAnew, Settled, Settles, SettlesTo, disarmed, is_down}
+use Rattle.machine_model.specs.Telling.{bumped_by}
+use Rattle.machine_host.specs.Settling.{Asks, IsQuiet, IsSettled, StaysUnmounted, LeftUnsettled, MountsAnew, Settled, Settles, is_down}
+use Rattle.machine_model.specs.Settling.{LeavesUnmounted, SettlesTo, disarmed}
 use Rattle.machine_host.proofs.BadLineLemmas.{found_bad}
 use Rattle.machine_host.proofs.ElsewhereLemmas.{serves_ordered}
 use Rattle.machine_host.proofs.ReadingLemmas.{recovered_back}

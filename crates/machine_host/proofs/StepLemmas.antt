@@ -27,23 +27,24 @@ use Rattle.script_text.specs.Action.{Action}
 use Rattle.script_text.specs.Action.Action.{Cut, CutIn, FailIn, Evict}
 use Rattle.reply_text.specs.Answer.{Answer}
 use Rattle.reply_text.specs.Answer.Answer.{Done, Refused}
-use Rattle.machine_host.specs.Machine.{Machine}
-use Rattle.machine_host.specs.Commands.{MayLeaveBlocks, MayLeaveFiles, MayLeaveVolume, early_refusal, fate, meaning, spending, unless_refused, while_interrupted}
-use Rattle.machine_host.specs.Machine.Fate.{Works, Orders, Cuts}
-use Rattle.machine_host.specs.Interrupted.{interrupted_answer, interrupted_mode, stop_in}
-use Rattle.machine_host.specs.Run.{answered, with_cut, with_order, worked}
-use Rattle.machine_host.specs.Telling.{Tells}
-use Rattle.machine_host.specs.declared.mode.Mode.TheVariants as modes
+use Rattle.machine_model.specs.Machine.{Machine}
+use Rattle.machine_model.specs.Commands.{MayLeaveBlocks, MayLeaveFiles, MayLeaveVolume, early_refusal, fate, meaning, spending, unless_refused, while_interrupted}
+use Rattle.machine_model.specs.Machine.Fate.{Works, Orders, Cuts}
+use Rattle.machine_model.specs.Interrupted.{interrupted_answer, interrupted_mode, stop_in}
+use Rattle.machine_model.specs.Run.{answered, with_cut, with_order, worked}
+use Rattle.machine_model.specs.Telling.{Tells}
+use Rattle.machine_model.specs.declared.mode.Mode.TheVariants as modes
 use Rattle.machine_host.specs.Faults.{LeavesStarved}
-use Rattle.machine_host.specs.Meaning.{Starved, mode_refusal, no_reasons}
-use Rattle.machine_host.specs.Meaning.Starved.{Untouched, WrittenBack, Unmounted, Unrecovered}
-use Rattle.machine_host.specs.Lines.{MetadataStands, bad_metadata}
+use Rattle.machine_model.specs.Meaning.{Starved, mode_refusal, no_reasons}
+use Rattle.machine_model.specs.Meaning.Starved.{Untouched, WrittenBack, Unmounted, Unrecovered}
+use Rattle.machine_host.specs.Lines.{MetadataStands}
+use Rattle.machine_model.specs.Lines.{bad_metadata}
 use Rattle.machine_host.specs.Stands.{HostState, HostServes, Stands, Comes, is_powered}
 use Rattle.machine_host.proofs.CostLemmas.{opens-none}
 use Rattle.machine_host.proofs.ElsewhereLemmas.{pages_elsewhere, volume_holds_elsewhere}
 use Rattle.machine_host.proofs.FilesAsideLemmas.{files_elsewhere, files_stand_elsewhere}
 use Rattle.machine_host.proofs.LayoutLemmas.{layout-write_back, metadata-then, stays_of_kept}
-use Rattle.machine_host.proofs.RefusalLemmas.{early_first, early_plain, fate_placed}
+use Rattle.machine_model.proofs.RefusalLemmas.{early_first, early_plain, fate_placed}
 use Rattle.machine_host.proofs.TellingLemmas.{interrupts, never_on, never_stops, power_struck, struck, tells_interrupted, tells_nothing, tells_work}
 use Rattle.nvm_base.specs.Stock.{Stock}
 

@@ -26,15 +26,15 @@ use Rattle.file_pages.proofs.FoundLemmas.{FoundFile, file-found}
 use Rattle.reply_text.specs.Answer.{Answer, IsPrintable}
 use Rattle.reply_text.specs.Room.{most_of}
 use Rattle.script_text.specs.Action.{Action}
-use Rattle.machine_host.specs.declared.mode.Mode.TheVariants.{On}
-use Rattle.machine_host.specs.Commands.{MayLeaveFiles, fate, longest, spending, unless_refused}
+use Rattle.machine_model.specs.declared.mode.Mode.TheVariants.{On}
+use Rattle.machine_model.specs.Commands.{MayLeaveFiles, fate, longest, spending, unless_refused}
 use Rattle.machine_host.specs.Faults.{answer_after, mode_after}
-use Rattle.machine_host.specs.Interrupted.{stop_in}
-use Rattle.machine_host.specs.Machine.{Machine}
-use Rattle.machine_host.specs.Machine.Fate.{Works}
-use Rattle.machine_host.specs.OnEvents.{lost_events}
-use Rattle.machine_host.specs.OnFlushes.{synced_in}
-use Rattle.machine_host.specs.OnPages.{pages_named}
+use Rattle.machine_model.specs.Interrupted.{stop_in}
+use Rattle.machine_model.specs.Machine.{Machine}
+use Rattle.machine_model.specs.Machine.Fate.{Works}
+use Rattle.machine_model.specs.OnEvents.{lost_events}
+use Rattle.machine_model.specs.OnFlushes.{synced_in}
+use Rattle.machine_model.specs.OnPages.{pages_named}
 use Rattle.machine_host.specs.Responding.{Answered}
 use Rattle.machine_host.specs.Stands.{HostServes, HostState, Stands, HasRoom}
 use Rattle.machine_host.proofs.CallLemmas.{IsPart}

@@ -6,12 +6,12 @@ use Rattle.line_words.specs.declared.interruption.Interruption.{Interruption}
 use Rattle.line_words.specs.declared.interruption.Interruption.TheVariants.{Failed, PowerLost}
 use Rattle.line_words.specs.Ending.{ended}
 use Rattle.reply_text.specs.Answer.{Answer}
-use Rattle.machine_host.specs.Machine.{Machine}
-use Rattle.machine_host.specs.Interrupted.{Interrupts, may_come, interrupted_answer, interrupted_mode, stop_in}
-use Rattle.machine_host.specs.Costs.{Spending}
-use Rattle.machine_host.specs.Run.{answered, worked}
-use Rattle.machine_host.specs.Telling.{Tells, cuts_after, faults_after}
-use Rattle.machine_host.specs.declared.mode.Mode.TheVariants as modes
+use Rattle.machine_model.specs.Machine.{Machine}
+use Rattle.machine_model.specs.Interrupted.{Interrupts, may_come, interrupted_answer, interrupted_mode, stop_in}
+use Rattle.machine_model.specs.Costs.{Spending}
+use Rattle.machine_model.specs.Run.{answered, worked}
+use Rattle.machine_model.specs.Telling.{Tells, cuts_after, faults_after}
+use Rattle.machine_model.specs.declared.mode.Mode.TheVariants as modes
 use Rattle.machine_host.specs.Stands.{is_powered}
 
 -- the state after an interruption, with what is armed then

@@ -8,7 +8,7 @@ use Rattle.nvm_model.proofs.NextLemmas.{IsLowestFrom, bad_from-all, bad_from-nex
 use Rattle.file_pages.specs.Object.{IsFileAt}
 use Rattle.machine_host.specs.declared.held.HeldFiles.{HeldFiles}
 use Rattle.machine_host.specs.Flushing.{HoldsLost, LinesTold}
-use Rattle.machine_host.specs.OnEvents.{events_of, line_event}
+use Rattle.machine_model.specs.OnEvents.{events_of, line_event}
 use Rattle.std.proofs.lemmas.List.{append-nil, append_assoc}
 
 -- Of the bad lines that spans touch those before one were told, and nothing else of the files changed.

@@ -33,16 +33,17 @@ use Rattle.reply_text.specs.Answer.Answer.{Done}
 use Rattle.reply_text.specs.Room.{most_of}
 use Rattle.script_text.specs.Action.{Action}
 use Rattle.script_text.specs.Action.Action.{VPSync}
-use Rattle.machine_host.specs.declared.mode.Mode.{Mode}
-use Rattle.machine_host.specs.declared.mode.Mode.TheVariants.{On}
-use Rattle.machine_host.specs.Machine.{Machine}
-use Rattle.machine_host.specs.Machine.Fate.{Works}
-use Rattle.machine_host.specs.Commands.{LeavesVolume, MayLeaveBlocks, MayLeaveFiles, MayLeaveVolume, fate, longest, spending, unless_refused}
+use Rattle.machine_model.specs.declared.mode.Mode.{Mode}
+use Rattle.machine_model.specs.declared.mode.Mode.TheVariants.{On}
+use Rattle.machine_model.specs.Machine.{Machine}
+use Rattle.machine_model.specs.Machine.Fate.{Works}
+use Rattle.machine_model.specs.Commands.{LeavesVolume, MayLeaveBlocks, MayLeaveFiles, MayLeaveVolume, fate, longest, spending, unless_refused}
 use Rattle.machine_host.specs.Faults.{answer_after, mode_after}
-use Rattle.machine_host.specs.Interrupted.{stop_in}
-use Rattle.machine_host.specs.Lines.{HasLayout, MetadataStands, bad_metadata}
-use Rattle.machine_host.specs.Meaning.{metadata_refusal}
-use Rattle.machine_host.specs.OnVolume.{part_synced_at, persist_at, volume_answer}
+use Rattle.machine_model.specs.Interrupted.{stop_in}
+use Rattle.machine_host.specs.Lines.{HasLayout, MetadataStands}
+use Rattle.machine_model.specs.Lines.{bad_metadata}
+use Rattle.machine_model.specs.Meaning.{metadata_refusal}
+use Rattle.machine_model.specs.OnVolume.{part_synced_at, persist_at, volume_answer}
 use Rattle.machine_host.specs.Responding.{Answered}
 use Rattle.machine_host.specs.Stands.{HostState, HostServes, AreMounted, Stands, Comes}
 use Rattle.machine_host.proofs.CallLemmas.{IsPart, comes_of_call, on_refused-then, printable_after, serves_of_call, short_told}
@@ -50,7 +51,7 @@ use Rattle.machine_host.proofs.ElsewhereLemmas.{first_not_volume, mounted-volume
 use Rattle.machine_host.proofs.FilesAsideLemmas.{files_not_volume}
 use Rattle.machine_host.proofs.FilesLeftLemmas.{may_leave-same}
 use Rattle.machine_host.proofs.LayoutLemmas.{kept-others, layout-others, metadata-then, same_bad, stays_of_kept}
-use Rattle.machine_host.proofs.RefusalLemmas.{meta_refused}
+use Rattle.machine_model.proofs.RefusalLemmas.{meta_refused}
 use Rattle.machine_host.proofs.StepLemmas.{BlocksAre, DeviceLeft, FilesAre, blocks_still, files_still, stands_done}
 
 -- What a call on the volume says, whichever it is. What it may leave is told of the pages that the volume stood for.

@@ -7,13 +7,13 @@ use Rattle.pm_volume.specs.Object.{VolumeState}
 use Rattle.pm_volume.specs.Refusals.{VolumeRefusal, address_refusal, bytes_refusal, discard_refusal, extent_refusal, load_refusal, metadata_refusal_if, physical_offset, physical_refusal, poisoned_at, store_refusal, sync_refusal}
 use Rattle.reply_text.specs.Answer.Answer.{Done, Bytes, Refused}
 use Rattle.script_text.specs.Action.Action.{VLoad, VStore, VSync, VPSync, VDiscard, VDiscardIf}
-use Rattle.machine_host.specs.declared.mode.Mode.TheVariants.{On}
-use Rattle.machine_host.specs.Machine.{Machine, Fate}
-use Rattle.machine_host.specs.Machine.Fate.{Works}
-use Rattle.machine_host.specs.Commands.{fate, unless_refused}
-use Rattle.machine_host.specs.OnVolume.{persist_at, volume_answer}
-use Rattle.machine_host.proofs.RefusalLemmas.{fate_worked, first_alone, mapped_first, read_right}
-use Rattle.machine_host.specs.Meaning.{metadata_refusal}
+use Rattle.machine_model.specs.declared.mode.Mode.TheVariants.{On}
+use Rattle.machine_model.specs.Machine.{Machine, Fate}
+use Rattle.machine_model.specs.Machine.Fate.{Works}
+use Rattle.machine_model.specs.Commands.{fate, unless_refused}
+use Rattle.machine_model.specs.OnVolume.{persist_at, volume_answer}
+use Rattle.machine_model.proofs.RefusalLemmas.{fate_worked, first_alone, mapped_first, read_right}
+use Rattle.machine_model.specs.Meaning.{metadata_refusal}
 use Rattle.word_tables.specs.declared.geometry.Geometry.{Geometry}
 
 module _ (h : Machine) (s : VolumeState) (on : h.mode ≡ On) (sizes : s.geo ≡ h.geometry) where

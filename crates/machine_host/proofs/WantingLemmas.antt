@@ -4,9 +4,9 @@ use Rattle.std.proofs.Math.Nat.{min-le_right}
 use Rattle.word_tables.specs.declared.geometry.Geometry.{Geometry}
 use Rattle.script_text.specs.Action.{Action}
 use Rattle.script_text.specs.Action.Action.{BRead, BWrite, BAtomic, BMulti, BDiscard, BDiscardIf, BExists, BScar, VLoad, VStore, VSync, VRanges, VPSync, VDiscard, VDiscardIf, VExists, Create, Delete, Rename, Resize, ListFiles, FRead, FWrite, FAtomic, FMulti, FDiscard, FSync, Map, Unmap, Load, Store, Sync, Flush, FlushVerify, DeepFlush, NextEvent, CheckFile, PoisonBlock, PoisonVolume, PoisonFile, PoisonMeta, WeakenFile, WeakenVolume, ClearFile, ClearVolume, Cut, CutIn, FailIn, Restart, Recover, Attr, Evict}
-use Rattle.machine_host.specs.declared.mode.Mode.{Mode}
-use Rattle.machine_host.specs.Commands.{early_refusal, longest, may_want_memory, meaning}
-use Rattle.machine_host.proofs.RefusalLemmas.{places_right, read_within}
+use Rattle.machine_model.specs.declared.mode.Mode.{Mode}
+use Rattle.machine_model.specs.Commands.{early_refusal, longest, may_want_memory, meaning}
+use Rattle.machine_model.proofs.RefusalLemmas.{places_right, read_within}
 
 -- a line is this short, or memory may be wanting
 fits : (geo : Geometry) (action : Action) → (meaning action).checked geo ≡ None → (longest action ≤ 200000) ⊎ IsTrue (may_want_memory action)

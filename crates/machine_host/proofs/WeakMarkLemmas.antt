@@ -18,9 +18,9 @@ use Rattle.file_pages.proofs.FoundLemmas.{file-found, file-missing}
 use Rattle.file_pages.proofs.PassLemmas.{pages_on}
 use Rattle.file_pages.proofs.PlaceLemmas.{PagesOn, line_at, located}
 use Rattle.scrub.proofs.LineLemmas.{cell_here, no_cell}
-use Rattle.machine_host.specs.declared.mode.Mode.TheVariants.{On}
-use Rattle.machine_host.specs.Machine.{Machine}
-use Rattle.machine_host.specs.OnFileErrors.{is_weak_line, is_weak_there}
+use Rattle.machine_model.specs.declared.mode.Mode.TheVariants.{On}
+use Rattle.machine_model.specs.Machine.{Machine}
+use Rattle.machine_model.specs.OnFileErrors.{is_weak_line, is_weak_there}
 use Rattle.machine_host.specs.Stands.{HostServes, HostState, Stands}
 
 -- the mark of the device is that of the line

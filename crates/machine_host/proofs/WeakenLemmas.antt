@@ -10,7 +10,7 @@ use Rattle.reply_text.specs.Answer.{Answer, answer_of}
 use Rattle.reply_text.specs.Answer.Answer.{Done}
 use Rattle.script_text.specs.Action.{Action}
 use Rattle.machine_host.specs.Faults.{answer_after, Leaves}
-use Rattle.machine_host.specs.OnMedia.{line_answer}
+use Rattle.machine_model.specs.OnMedia.{line_answer}
 use Rattle.machine_host.specs.Responding.{Answered, Responds}
 use Rattle.machine_host.specs.Stands.{HostServes, HostState}
 use Rattle.machine_host.proofs.MediaLemmas.{IsRefusal}

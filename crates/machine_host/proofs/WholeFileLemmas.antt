@@ -18,7 +18,7 @@ use Rattle.file_pages.proofs.PassLemmas.{length-pages_on, pages_on}
 use Rattle.file_actions.specs.Refusals.{all_bytes}
 use Rattle.machine_host.specs.declared.held.HeldFiles.{HeldFiles}
 use Rattle.machine_host.specs.Flushing.{HoldsLost, LinesTold}
-use Rattle.machine_host.specs.OnEvents.{events_of}
+use Rattle.machine_model.specs.OnEvents.{events_of}
 use Rattle.machine_host.proofs.LayoutLemmas.{filter-same}
 
 -- so many bytes from the start on

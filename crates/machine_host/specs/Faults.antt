@@ -4,8 +4,8 @@ use Rattle.line_device.specs.Medium.{Medium, WritesBack}
 use Rattle.line_device.specs.Panel.{Start}
 use Rattle.line_device.specs.Device.{Device, Restarted, Waited}
 use Rattle.line_device.specs.declared.line.Choice.{Choice}
-use Rattle.machine_host.specs.declared.mode.Mode.{Mode}
-use Rattle.machine_host.specs.declared.mode.Mode.TheVariants as modes
+use Rattle.machine_model.specs.declared.mode.Mode.{Mode}
+use Rattle.machine_model.specs.declared.mode.Mode.TheVariants as modes
 use Rattle.script_text.specs.Action.{Action}
 use Rattle.reply_text.specs.Answer.{Answer}
 use Rattle.flush_engine.specs.declared.fault.FlushFault.{FlushFault}
@@ -33,25 +33,25 @@ use Rattle.line_words.specs.Told.{Told}
 use Rattle.line_words.specs.Told.Told.{Refuses, Stops, Starves}
 use Rattle.recovery.specs.declared.fault.MountFault.{MountFault}
 use Rattle.recovery.specs.declared.fault.MountFault.TheVariants as mount
-use Rattle.machine_host.specs.Machine.{Machine}
-use Rattle.machine_host.specs.OnBlocks.{refusal_answer}
-use Rattle.machine_host.specs.OnVolume.{volume_answer}
-use Rattle.machine_host.specs.OnFiles.{journal_answer}
-use Rattle.machine_host.specs.OnPages.{page_answer}
-use Rattle.machine_host.specs.OnMappings.{map_answer}
+use Rattle.machine_model.specs.Machine.{Machine}
+use Rattle.machine_model.specs.OnBlocks.{refusal_answer}
+use Rattle.machine_model.specs.OnVolume.{volume_answer}
+use Rattle.machine_model.specs.OnFiles.{journal_answer}
+use Rattle.machine_model.specs.OnPages.{page_answer}
+use Rattle.machine_model.specs.OnMappings.{map_answer}
 use Rattle.file_actions.specs.Refusals.{action_says}
 use Rattle.file_actions.specs.declared.fault.ActionFault.{ActionFault}
-use Rattle.machine_host.specs.OnFileActions.{action_answer}
+use Rattle.machine_model.specs.OnFileActions.{action_answer}
 use Rattle.mappings.specs.Refusals.{map_says}
 use Rattle.mappings.specs.declared.fault.MapFault.{MapFault}
 use Rattle.pm_volume.specs.declared.fault.VolumeFault.{VolumeFault}
 use Rattle.pm_volume.specs.Refusals.{volume_says}
-use Rattle.machine_host.specs.Commands.{meaning}
-use Rattle.machine_host.specs.Meaning.{Starved}
-use Rattle.machine_host.specs.Meaning.Starved.{Untouched, WrittenBack, Unmounted, Unrecovered}
-use Rattle.machine_host.specs.Interrupted.{interrupted_answer, interrupted_mode}
-use Rattle.machine_host.specs.Restarting.{RestartMayLeave, restarted}
-use Rattle.machine_host.specs.Costs.{Opens}
+use Rattle.machine_model.specs.Commands.{meaning}
+use Rattle.machine_model.specs.Meaning.{Starved}
+use Rattle.machine_model.specs.Meaning.Starved.{Untouched, WrittenBack, Unmounted, Unrecovered}
+use Rattle.machine_model.specs.Interrupted.{interrupted_answer, interrupted_mode}
+use Rattle.machine_model.specs.Restarting.{RestartMayLeave, restarted}
+use Rattle.machine_model.specs.Costs.{Opens}
 use Rattle.machine_host.specs.Stands.{HostState, Stands}
 
 -- host and device stand for what a restart of this state left, with nothing mounted

@@ -18,9 +18,9 @@ use Rattle.flush_engine.specs.declared.fault.FlushFault.{FlushFault}
 use Rattle.flush_engine.specs.Refusals.{flush_refusal, flush_says, flushed, verified}
 use Rattle.flush_engine.specs.Spans.{lines_in}
 use Rattle.machine_host.specs.declared.held.HeldFiles.{HeldFiles}
-use Rattle.machine_host.specs.declared.look.Look.{Look}
-use Rattle.machine_host.specs.declared.look.Look.TheVariants.{Once, Again}
-use Rattle.machine_host.specs.OnEvents.{events_of}
+use Rattle.machine_model.specs.declared.look.Look.{Look}
+use Rattle.machine_model.specs.declared.look.Look.TheVariants.{Once, Again}
+use Rattle.machine_model.specs.OnEvents.{events_of}
 
 -- what a flush says of the lines that it lost: nothing, or the lowest
 abbrev pub Looked : Look → Result (Unit {0}) FlushFault → Option ℕ → Type 0

@@ -8,8 +8,8 @@ use Rattle.reply_text.specs.declared.reply.Reply.{Reply}
 use Rattle.reply_text.specs.Room.{most_of}
 use Rattle.machine_host.specs.declared.outcome.Outcome.{Outcome}
 use Rattle.machine_host.specs.declared.outcome.Outcome.TheVariants.{Read, Reply as Replied}
-use Rattle.machine_host.specs.Machine.{Machine}
-use Rattle.machine_host.specs.Commands.{fate, longest}
+use Rattle.machine_model.specs.Machine.{Machine}
+use Rattle.machine_model.specs.Commands.{fate, longest}
 use Rattle.machine_host.specs.Stands.{HostState, HostServes, Stands, Comes}
 use Rattle.machine_host.specs.Faults.{Leaves}
 

@@ -7,7 +7,7 @@ ghost use Rattle.file_journal.specs.Object.{JournalServes};
 ghost use Rattle.file_journal.specs.Standing.{FilesStand};
 ghost use Rattle.flush_engine.specs.Spans.{IsWithin};
 ghost use Rattle.machine_host.specs.Flushing.{HoldsLost, LinesTold};
-ghost use Rattle.machine_host.specs.OnEvents.{line_event};
+ghost use Rattle.machine_model.specs.OnEvents.{line_event};
 ghost use Rattle.machine_host.specs.Stands.{just_mounted};
 
 use error_events::{Event, Events};
@@ -15,8 +15,8 @@ use file_pages::FilePages;
 use flush_engine::next_bad;
 use line_device::LineDevice;
 use mappings::Mappings;
+use marked_lines::weak_in_files;
 use nvm_base::{LINE, Name, Span};
-use scrub::weak_in_files;
 use std::alloc::{AllocError, Global};
 
 /// The files of a host: the bytes of their pages, the mappings of them, and the events of their bad lines.
@@ -75,7 +75,7 @@ impl HeldFiles {
         });
     }
 
-    /// The same, where it is news.
+    /// Adds the event where it is news.
     pub(crate) fn tell_news(&mut self, name: &Name, line: u64, is_news: bool)
         requires room { 0 < self.old.events.spare }
         requires reach { line < 2 ^ 30 }

@@ -13,8 +13,6 @@ mod pages;
 mod power;
 mod refusals;
 mod settling;
-#[cfg(test)]
-mod tests;
 mod volume;
 
 use crate::Mode;
@@ -73,7 +71,7 @@ impl Model for Performer {
 
 impl Host {
     ghost use Rattle.std.specs.Prelude.{◌≡◌, ◌≤◌, [], None, false, length, IsTrue, IfOk, OnOk, OnErr};
-    ghost use Rattle.machine_host.specs.declared.mode.Mode.TheVariants as modes;
+    ghost use Rattle.machine_model.specs.declared.mode.Mode.TheVariants as modes;
     ghost use Rattle.script_text.specs.Action.{action_of};
     ghost use Rattle.script_text.specs.Parsing.{InBounds};
     ghost use Rattle.line_device.specs.Medium.{last_image};
@@ -91,18 +89,18 @@ impl Host {
     ghost use Rattle.block_device.specs.Images.{KeepsReads};
     ghost use Rattle.recovery.specs.Findings.{geometry_told, early_finding, first_finding};
     ghost use Rattle.recovery.specs.Mounting.{Finds, IsOfLogs, mount_outcome};
-    ghost use Rattle.machine_host.specs.Machine.{Machine, bad_of};
+    ghost use Rattle.machine_model.specs.Machine.{Machine, bad_of};
     ghost use Rattle.machine_host.specs.Lines.{MetadataStands};
-    ghost use Rattle.machine_host.specs.OnFileErrors.{is_weak_there};
+    ghost use Rattle.machine_model.specs.OnFileErrors.{is_weak_there};
     ghost use Rattle.machine_host.specs.Stands.{Comes, HostServes, IsFlushed, Stands, Steps};
-    ghost use Rattle.machine_host.specs.Restarting.{reading};
-    ghost use Rattle.machine_host.specs.Costs.{mount_calls, mount_persists};
+    ghost use Rattle.machine_model.specs.Restarting.{reading};
+    ghost use Rattle.machine_model.specs.Costs.{mount_calls, mount_persists};
     ghost use Rattle.machine_host.specs.Faults.{Leaves};
     ghost use Rattle.machine_host.specs.Settling.{LeftUnsettled, Settled, is_down};
-    ghost use Rattle.machine_host.specs.Commands.{fate, may_want_memory};
+    ghost use Rattle.machine_model.specs.Commands.{fate, may_want_memory};
     ghost use Rattle.machine_host.specs.Responding.{IsWithin, outcome_answer};
 
-    /// The host of a device, of the sizes that its superblock tells. It mounts the device, and takes its work buffer.
+    /// The host of a device, of the sizes that its superblock has. It mounts the device, and takes its work buffer.
     pub fn mount<D: LineDevice>(alloc: Global, device: &mut D) -> Result<Self, MountFault>
         requires some { 1 ≤ (D.state device.old).medium.count }
         requires flushed { IsFlushed (D.state device.old).medium }
@@ -172,7 +170,7 @@ impl Host {
         self.performer.settle(device)
     }
 
-    /// How many lines of the blocks, pages and files that are there are bad. It makes no counted call.
+    /// How many lines of the blocks, pages and files that exist are bad. It makes no counted call.
     pub fn bad_lines<D: LineDevice>(&self, device: &D) -> u64
         requires serves { HostServes self.now (D.state device.now) }
         requires on { self.now.mode ≡ modes.On }
@@ -218,7 +216,7 @@ impl Host {
         outcome.print(&self.work, out)
     }
 
-    /// Performs a command on the device, as `step`, and tells what it came to. Bytes that it reads are put at the head of `work`.
+    /// Performs a command on the device, as `step`, and returns what it came to. Bytes that it reads are put at the head of `work`.
     pub fn answer<D: LineDevice>(
         &mut self,
         device: &mut D,

@@ -10,7 +10,7 @@ use std::alloc::AllocError;
 /// What a command comes to.
 #[derive(Debug, Drop)]
 pub enum Outcome {
-    /// So many bytes were read. They stand at the head of the work buffer.
+    /// Number of bytes that were read. They stand at the head of the work buffer.
     Read(usize),
     Reply(Reply),
 }

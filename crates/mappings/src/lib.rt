@@ -8,8 +8,6 @@ mod lending;
 mod making;
 mod mapping;
 mod queries;
-#[cfg(test)]
-mod tests;
 
 pub use fault::MapFault;
 use indexmap::IndexMap;

@@ -27,7 +27,7 @@ use line_device::Lines;
 use nvm_base::{Bytes, Kind, Name, PAGE, Span};
 use std::alloc::Global;
 
-/// So many mappings may there be at a time.
+/// Most mappings at a time.
 const MOST: usize = 256;
 
 /// The handle at which handles end.

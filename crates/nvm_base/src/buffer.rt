@@ -124,7 +124,7 @@ impl<T: Copy + Drop> Buffer<T> {
         Ok(())
     }
 
-    /// Adds so many equal items at the end, all of them or none.
+    /// Adds a number of equal items at the end, all of them or none.
     pub fn repeat(&mut self, item: T, n: u64) -> Result<(), AllocError>
         ensures ok { OnOk result (self.new.items ≡ self.old.items ++ replicate n item) }
         ensures err { OnErr result (self.new ≡ self.old) }

@@ -9,8 +9,6 @@ mod numbers;
 mod printing;
 mod reading;
 mod spelling;
-#[cfg(test)]
-mod tests;
 mod units;
 
 pub use buffer::{Buffer, Bytes, Spans, Words};

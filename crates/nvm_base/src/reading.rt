@@ -9,9 +9,9 @@ use std::alloc::{AllocError, Global};
 /// Why a text gave no bytes.
 #[derive(Clone, Copy, Debug, PartialEq, Eq)]
 pub enum TextFault {
-    /// It is no DATA.
+    /// Text that is no DATA.
     Bad,
-    /// It is DATA of too many bytes.
+    /// DATA of too many bytes.
     TooLong,
     Memory,
 }

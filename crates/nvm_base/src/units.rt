@@ -21,7 +21,7 @@ pub const MOST: u64 = 65536;
 #[derive(Clone, Copy, Debug, PartialEq, Eq, PartialOrd, Ord)]
 pub struct LineNo(pub u64);
 
-/// A stretch of bytes, or of another unit where that is said.
+/// A stretch of bytes, or of another unit where that is stated.
 #[derive(Clone, Copy, Debug, PartialEq, Eq)]
 pub struct Span {
     pub start: u64,

@@ -11,7 +11,7 @@ ghost use Rattle.nvm_model.specs.Cell.{Cell, put_cell, persist_cell, flush_cell,
 ghost use Rattle.nvm_model.specs.Cell.Cell.{Kept};
 ghost use Rattle.nvm_model.specs.Page.{Page, cell_of, discard, fill, put, persist, presence_of, byte_in, read_pages, touches_absent, KeepsPages, PagesStand};
 
-/// An action changes each line by its number; filling changes no line that is there, and a discard none that is left.
+/// An action changes each line by its number; filling changes no line that exists, and a discard none that is left.
 pub fn actions_go_line_by_line()
     ensures put { (at : ℕ) (bytes : List ℕ) (pages : List Page) (n : ℕ)
         → cell_of (put at bytes pages) n ≡ option_map (put_cell at bytes n) (cell_of pages n) }

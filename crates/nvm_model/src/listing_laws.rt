@@ -10,7 +10,7 @@ pub fn the_files_in_slots_are_listed<F>()
     ensures once { (name : F → List ℕ) (slots : List (Option F)) → length (in_order name slots) ≡ count_by is_some slots }
 {}
 
-/// What is done to one slot is done to its file in the list: it is put, taken out, put elsewhere or changed.
+/// A change of one slot is a change of its file in the list: it is put, taken out, put elsewhere or changed.
 pub fn slots_and_lists_keep_step<F>()
     ensures created { (name : F → List ℕ) (slots : List (Option F)) (i : ℕ) (file : F) → slice_get slots i ≡ Some None
         → MayTake name slots i (name file) → in_order name (slice_set slots i (Some file)) ≡ put_file name file (in_order name slots) }

@@ -6,7 +6,7 @@ ghost use Rattle.nvm_model.specs.Cell.{Cell, CellStands, lose_cell, weaken_cell,
 ghost use Rattle.nvm_model.specs.Page.{Page, cell_of, change_line, presence_of, PagesStand};
 ghost use Rattle.nvm_model.specs.Storage.{Block};
 
-/// What is done to one line of pages is done to no other, and no page comes or goes.
+/// A change of one line of pages changes no other, and no page comes or goes.
 pub fn one_line_changes_alone()
     ensures line { (f : Cell → Cell) (n : ℕ) (pages : List Page) → cell_of (change_line f n pages) n ≡ option_map f (cell_of pages n) }
     ensures others { (f : Cell → Cell) (n : ℕ) (pages : List Page) (i : ℕ) → i ≢ n → cell_of (change_line f n pages) i ≡ cell_of pages i }

@@ -1,23 +1,11 @@
 //! `nvmexplore`: whether a program over persistent memory may ever find something after a power cut.
 #![tactic(auto)]
 
-mod answering;
-mod asking;
-mod form;
-mod laws;
-mod reading;
-mod showing;
-mod stop;
-mod telling;
-#[cfg(test)]
-mod tests;
-mod top;
-
+use explore_program::nvmexplore;
 use host_io::{FileImages, StdinSource, StdoutSink};
 use line_module::Module;
 use std::env;
 use std::process::ExitCode;
-use top::nvmexplore;
 
 fn main(rt: HostRuntime) -> ExitCode {
     let alloc = rt.alloc();

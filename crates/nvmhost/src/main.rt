@@ -1,19 +1,11 @@
 //! `nvmhost`: what a program over persistent memory may find after a power cut or a media error.
 #![tactic(auto)]
 
-mod bench;
-mod running;
-mod storing;
-mod telling;
-#[cfg(test)]
-mod tests;
-mod top;
-
 use host_io::{FileImages, StdinSource, StdoutSink};
+use host_program::nvmhost;
 use line_module::Module;
 use std::env;
 use std::process::ExitCode;
-use top::nvmhost;
 
 fn main(rt: HostRuntime) -> ExitCode {
     let alloc = rt.alloc();

@@ -6,14 +6,14 @@ use Rattle.nvm_model.specs.Blocks.{nth}
 use Rattle.nvm_model.specs.Numbered.{is_among}
 use Rattle.nvm_model.specs.Storage.{Block}
 use Rattle.script_text.specs.Action.{Action}
-use Rattle.machine_host.specs.Commands.{meaning}
-use Rattle.machine_host.specs.Meaning.{BlocksLeft}
-use Rattle.machine_host.specs.Meaning.BlocksLeft.{Same, Either, Mixed}
-use Rattle.outcomes.specs.Blocks.{BlockRead, BlockReply, all_numbers_read, allows, block_fits, numbers_read}
-use Rattle.outcomes.specs.Blocks.BlockReply.{Shows, Scar, BadLine, Refuses}
-use Rattle.outcomes.specs.Left.{blocks_may_pass, blocks_pass}
-use Rattle.cut_places.proofs.AllLemmas.{same_test}
-use Rattle.witnesses.proofs.ListLemmas.{IsAmong, all_from, all_of}
+use Rattle.explorer.specs.MachineModel.Commands.{meaning}
+use Rattle.explorer.specs.MachineModel.Meaning.{BlocksLeft}
+use Rattle.explorer.specs.MachineModel.Meaning.BlocksLeft.{Same, Either, Mixed}
+use Rattle.explorer.specs.Outcomes.Blocks.{BlockRead, BlockReply, all_numbers_read, allows, block_fits, numbers_read}
+use Rattle.explorer.specs.Outcomes.Blocks.BlockReply.{Shows, Scar, BadLine, Refuses}
+use Rattle.explorer.specs.Outcomes.Left.{blocks_may_pass, blocks_pass}
+use Rattle.explorer.proofs.CutPlaces.AllLemmas.{same_test}
+use Rattle.explorer.proofs.Witnesses.ListLemmas.{IsAmong, all_from, all_of}
 use Rattle.outcome_lists.specs.Apart.{grouped}
 use Rattle.outcome_lists.specs.ApartBlocks.{AreDistinctBlocks, AreOfOneBlock, IsOfOneBlock, IsSight, blocks_apart, blocks_shown_apart, is_same_block, shows_block}
 

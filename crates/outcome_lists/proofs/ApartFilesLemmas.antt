@@ -11,30 +11,30 @@ use Rattle.nvm_model.specs.Page.{Page, cell_of}
 use Rattle.nvm_model.specs.Storage.{File, Mapping}
 use Rattle.script_text.specs.Action.{Action}
 use Rattle.script_text.specs.Action.Action.{PoisonFile, WeakenFile}
-use Rattle.machine_host.specs.Commands.{meaning}
-use Rattle.machine_host.specs.Meaning.{FilesLeft}
-use Rattle.machine_host.specs.Meaning.FilesLeft.{Unchanged, OldOrNew, StoredInPart, SyncedInPart}
-use Rattle.machine_host.specs.OnPages.{pages_named}
-use Rattle.durable.specs.Durable.{AllHaveLines}
-use Rattle.durable.proofs.FileThereLemmas.{lines-files_altered, lines-named}
-use Rattle.outcomes.specs.Files.{FileRead, all_but, each_file, file_fits, files_fit, is_file_reply, is_reply_of, reads_of}
-use Rattle.outcomes.specs.Left.{files_may_pass, files_pass, stored_file, synced_file}
-use Rattle.outcomes.specs.Outcome.{AllHaveValues, HaveValues}
-use Rattle.outcomes.specs.Pages.{PageRead, all_lines_read, line_fits}
-use Rattle.outcome_runs.proofs.FileValueLemmas.{files_made_have}
-use Rattle.sights.specs.Seeing.{seen}
-use Rattle.cut_places.specs.FileChanges.{FilesChange, LinesChange, files_changed, left_by, pages_changed}
-use Rattle.cut_places.specs.FileChanges.FilesChange.{Nothing, Makes, Removes, Renames, Resizes, Changes, Maps, Unmaps}
-use Rattle.cut_places.specs.FileChanges.LinesChange.{Puts, Persists, Rewrites, Zeroes, Loses, Weakens, Clears}
-use Rattle.cut_places.specs.FileCommands.{files_change}
-use Rattle.cut_places.specs.Maps.{uncopied}
-use Rattle.cut_places.proofs.AllLemmas.{same_test}
-use Rattle.cut_places.proofs.InsideLemmas.{stored}
-use Rattle.cut_places.proofs.LeftLemmas.{left_by_command, left_same}
-use Rattle.cut_places.proofs.PageChangeLemmas.{length_changed}
-use Rattle.value_tables.specs.Listed.{HasWords}
-use Rattle.value_tables.proofs.FileValueLemmas.{seen_has}
-use Rattle.witnesses.proofs.ListLemmas.{IsAmong, all_from, all_of}
+use Rattle.explorer.specs.MachineModel.Commands.{meaning}
+use Rattle.explorer.specs.MachineModel.Meaning.{FilesLeft}
+use Rattle.explorer.specs.MachineModel.Meaning.FilesLeft.{Unchanged, OldOrNew, StoredInPart, SyncedInPart}
+use Rattle.explorer.specs.MachineModel.OnPages.{pages_named}
+use Rattle.explorer.specs.Durable.Durable.{AllHaveLines}
+use Rattle.explorer.proofs.Durable.FileThereLemmas.{lines-files_altered, lines-named}
+use Rattle.explorer.specs.Outcomes.Files.{FileRead, all_but, each_file, file_fits, files_fit, is_file_reply, is_reply_of, reads_of}
+use Rattle.explorer.specs.Outcomes.Left.{files_may_pass, files_pass, stored_file, synced_file}
+use Rattle.explorer.specs.Outcomes.Outcome.{AllHaveValues, HaveValues}
+use Rattle.explorer.specs.Outcomes.Pages.{PageRead, all_lines_read, line_fits}
+use Rattle.explorer.proofs.OutcomeRuns.FileValueLemmas.{files_made_have}
+use Rattle.explorer.specs.SightsSeen.Seeing.{seen}
+use Rattle.explorer.specs.CutPlaces.FileChanges.{FilesChange, LinesChange, files_changed, left_by, pages_changed}
+use Rattle.explorer.specs.CutPlaces.FileChanges.FilesChange.{Nothing, Makes, Removes, Renames, Resizes, Changes, Maps, Unmaps}
+use Rattle.explorer.specs.CutPlaces.FileChanges.LinesChange.{Puts, Persists, Rewrites, Zeroes, Loses, Weakens, Clears}
+use Rattle.explorer.specs.CutPlaces.FileCommands.{files_change}
+use Rattle.explorer.specs.CutPlaces.Maps.{uncopied}
+use Rattle.explorer.proofs.CutPlaces.AllLemmas.{same_test}
+use Rattle.explorer.proofs.CutPlaces.InsideLemmas.{stored}
+use Rattle.explorer.proofs.CutPlaces.LeftLemmas.{left_by_command, left_same}
+use Rattle.explorer.proofs.CutPlaces.PageChangeLemmas.{length_changed}
+use Rattle.explorer.specs.ValueTables.Listed.{HasWords}
+use Rattle.explorer.proofs.ValueTables.FileValueLemmas.{seen_has}
+use Rattle.explorer.proofs.Witnesses.ListLemmas.{IsAmong, all_from, all_of}
 use Rattle.outcome_lists.specs.Apart.{grouped}
 use Rattle.outcome_lists.specs.ApartFiles.{AreDistinctWords, is_same_line, is_same_word, shows_word, words_apart, words_shown_apart}
 use Rattle.outcome_lists.proofs.ApartBlocksLemmas.{all_same, and_true, grouped_same, or_same, then_so, where_so}

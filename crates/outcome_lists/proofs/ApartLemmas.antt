@@ -7,12 +7,12 @@ use Rattle.std.proofs.lemmas.Bool.{eqb-false, eqb-true, leb-true, ltb-true, ne_e
 use Rattle.nvm_model.specs.Cell.{touches}
 use Rattle.nvm_model.specs.Cell.Cell.{Bad, Kept}
 use Rattle.nvm_model.specs.Numbered.{is_among}
-use Rattle.outcomes.specs.Pages.{PageRead, PageReply, agrees, all_agree, allows_bad, allows_good, words_fit}
-use Rattle.outcomes.specs.Pages.PageReply.{Shows, Poison, Refuses}
-use Rattle.sights.proofs.ShowLemmas.{tests_same}
-use Rattle.value_tables.specs.Listed.{HaveOne}
-use Rattle.value_tables.proofs.HistoryLemmas.{word_has}
-use Rattle.value_tables.proofs.RangeLemmas.{range_all}
+use Rattle.explorer.specs.Outcomes.Pages.{PageRead, PageReply, agrees, all_agree, allows_bad, allows_good, words_fit}
+use Rattle.explorer.specs.Outcomes.Pages.PageReply.{Shows, Poison, Refuses}
+use Rattle.explorer.proofs.SightsSeen.ShowLemmas.{tests_same}
+use Rattle.explorer.specs.ValueTables.Listed.{HaveOne}
+use Rattle.explorer.proofs.ValueTables.HistoryLemmas.{word_has}
+use Rattle.explorer.proofs.ValueTables.RangeLemmas.{range_all}
 use Rattle.outcome_lists.specs.Apart.{AreApart, AreWords, IsWordRead, IsWordReply, LineAlone, OtherLine}
 
 -- tests of lists

@@ -7,12 +7,12 @@ use Rattle.nvm_model.specs.Cell.Cell.{Bad, Kept}
 use Rattle.nvm_model.specs.Numbered.{list_from}
 use Rattle.nvm_model.specs.Page.{Page, cell_of}
 use Rattle.nvm_model.specs.Storage.{File}
-use Rattle.machine_host.specs.Machine.{Machine}
-use Rattle.durable.specs.Durable.{IsCounted}
-use Rattle.outcomes.specs.Finds.{armed}
-use Rattle.outcomes.specs.Outcome.{AllHaveValues, HasValues, HaveValues}
-use Rattle.value_tables.specs.Listed.{IsSound}
-use Rattle.value_tables.proofs.FileValueLemmas.{seen_has}
+use Rattle.explorer.specs.MachineModel.Machine.{Machine}
+use Rattle.explorer.specs.Durable.Durable.{IsCounted}
+use Rattle.explorer.specs.Outcomes.Finds.{armed}
+use Rattle.explorer.specs.Outcomes.Outcome.{AllHaveValues, HasValues, HaveValues}
+use Rattle.explorer.specs.ValueTables.Listed.{IsSound}
+use Rattle.explorer.proofs.ValueTables.FileValueLemmas.{seen_has}
 use Rattle.explorer.specs.Starting.{AreDurable, Begins, HaveDurable}
 
 -- each word of a durable line has one value

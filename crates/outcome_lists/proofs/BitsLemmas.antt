@@ -8,8 +8,8 @@ use Rattle.line_device.specs.History.{latest, newest}
 use Rattle.line_device.specs.Medium.{word_stored}
 use Rattle.line_device.specs.Word.{byte_over, reaches, word_at, word_from, word_over}
 use Rattle.nvm_model.specs.Numbered.{list_from}
-use Rattle.durable.proofs.RewrittenLemmas.{byte_rewritten, rewritten-small}
-use Rattle.outcomes.proofs.HistoryLemmas.{Keeps}
+use Rattle.explorer.proofs.Durable.RewrittenLemmas.{byte_rewritten, rewritten-small}
+use Rattle.explorer.proofs.Outcomes.HistoryLemmas.{Keeps}
 use Rattle.outcome_lists.proofs.PairLemmas.{all_joined}
 
 -- numbers of 64 bits, and bytes

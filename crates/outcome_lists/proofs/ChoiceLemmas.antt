@@ -11,24 +11,24 @@ use Rattle.nvm_model.specs.Storage.{Block, File, Mapping}
 use Rattle.block_sights.specs.Sights.{Sight, sight}
 use Rattle.script_text.specs.Action.{Action}
 use Rattle.script_text.specs.Script.{Input}
-use Rattle.machine_host.specs.Machine.{Machine}
-use Rattle.machine_host.specs.Commands.{while_interrupted}
-use Rattle.outcomes.specs.Finds.{IsReady}
-use Rattle.outcomes.specs.Pages.PageReply.{Shows}
-use Rattle.outcomes.specs.Seen.{may_show}
-use Rattle.outcomes.specs.Stops.{IsProgram}
-use Rattle.asked_reads.specs.declared.read.Read.TheVariants.{Volume, Blocks, File as OfFile}
-use Rattle.sights.specs.BlockTelling.{same_sight}
-use Rattle.sights.specs.Seeing.{seen}
-use Rattle.cut_places.specs.Places.{Stop, cut_places}
-use Rattle.value_tables.specs.Left.{FileSide, block_left, blocks_left, file_left, file_side, files_left, line_left, lines_left}
-use Rattle.value_tables.specs.Left.FileSide.{NoFile, PastEnd, OfLine}
-use Rattle.value_tables.specs.Listed.{IsSized, IsSound, block_read, file_word_read, has_bytes, lists_bytes, lists_sight, reply_of, word_read}
-use Rattle.value_tables.specs.Values.{cells_of, history_of, values_with}
-use Rattle.value_tables.proofs.BlockLemmas.{blocks_listed}
-use Rattle.value_tables.proofs.FileListedLemmas.{file_words_listed}
-use Rattle.value_tables.proofs.ListedLemmas.{words_listed}
-use Rattle.value_tables.proofs.OnceLemmas.{any_sight, any_value}
+use Rattle.explorer.specs.MachineModel.Machine.{Machine}
+use Rattle.explorer.specs.MachineModel.Commands.{while_interrupted}
+use Rattle.explorer.specs.Outcomes.Finds.{IsReady}
+use Rattle.explorer.specs.Outcomes.Pages.PageReply.{Shows}
+use Rattle.explorer.specs.Outcomes.Seen.{may_show}
+use Rattle.explorer.specs.Outcomes.Stops.{IsProgram}
+use Rattle.explorer.specs.AskedReads.declared.read.Read.TheVariants.{Volume, Blocks, File as OfFile}
+use Rattle.explorer.specs.SightsSeen.BlockTelling.{same_sight}
+use Rattle.explorer.specs.SightsSeen.Seeing.{seen}
+use Rattle.explorer.specs.CutPlaces.Places.{Stop, cut_places}
+use Rattle.explorer.specs.ValueTables.Left.{FileSide, block_left, blocks_left, file_left, file_side, files_left, line_left, lines_left}
+use Rattle.explorer.specs.ValueTables.Left.FileSide.{NoFile, PastEnd, OfLine}
+use Rattle.explorer.specs.ValueTables.Listed.{IsSized, IsSound, block_read, file_word_read, has_bytes, lists_bytes, lists_sight, reply_of, word_read}
+use Rattle.explorer.specs.ValueTables.Values.{cells_of, history_of, values_with}
+use Rattle.explorer.proofs.ValueTables.BlockLemmas.{blocks_listed}
+use Rattle.explorer.proofs.ValueTables.FileListedLemmas.{file_words_listed}
+use Rattle.explorer.proofs.ValueTables.ListedLemmas.{words_listed}
+use Rattle.explorer.proofs.ValueTables.OnceLemmas.{any_sight, any_value}
 use Rattle.outcome_lists.specs.Choices.{sights_through, states, values_through}
 use Rattle.outcome_lists.proofs.WayLemmas.{all_had, block_made, line_made, one_only, side_made}
 

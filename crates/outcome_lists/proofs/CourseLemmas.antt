@@ -6,16 +6,16 @@ use Rattle.word_tables.specs.declared.geometry.Geometry.{Geometry}
 use Rattle.script_text.specs.declared.command.Command.{Command}
 use Rattle.script_text.specs.Action.{Action, action_of}
 use Rattle.reply_text.specs.Answer.{Answer}
-use Rattle.machine_host.specs.Machine.{Machine}
-use Rattle.machine_host.specs.Commands.{fate, meaning, refusal, unless_refused}
-use Rattle.outcomes.specs.Stops.{is_of_program, led_to}
-use Rattle.cut_places.specs.declared.sight.Sight.{Sight}
-use Rattle.cut_places.specs.Following.{AreDone, Follows, IsWithin}
-use Rattle.cut_places.specs.Sights.{files_once_done}
-use Rattle.cut_places.proofs.GoingLemmas.{at_line}
-use Rattle.cut_places.proofs.StepLemmas.{ready_after, sees_after}
-use Rattle.sights.specs.Units.{block_once_done, line_once_done}
-use Rattle.sights.proofs.SizeLemmas.{geometry_stays}
+use Rattle.explorer.specs.MachineModel.Machine.{Machine}
+use Rattle.explorer.specs.MachineModel.Commands.{fate, meaning, refusal, unless_refused}
+use Rattle.explorer.specs.Outcomes.Stops.{is_of_program, led_to}
+use Rattle.explorer.specs.CutPlaces.declared.sight.Sight.{Sight}
+use Rattle.explorer.specs.CutPlaces.Following.{AreDone, Follows, IsWithin}
+use Rattle.explorer.specs.CutPlaces.Sights.{files_once_done}
+use Rattle.explorer.proofs.CutPlaces.GoingLemmas.{at_line}
+use Rattle.explorer.proofs.CutPlaces.StepLemmas.{ready_after, sees_after}
+use Rattle.explorer.specs.SightsSeen.Units.{block_once_done, line_once_done}
+use Rattle.explorer.proofs.SightsSeen.SizeLemmas.{geometry_stays}
 use Rattle.outcome_lists.proofs.MappedLemmas.{suc_is}
 
 -- what is looked at once a command is done, or refused

@@ -8,25 +8,25 @@ use Rattle.reply_text.specs.Answer.{Answer}
 use Rattle.script_text.specs.Action.{Action}
 use Rattle.script_text.specs.Script.{Input}
 use Rattle.script_text.specs.Script.Input.{Skipped, Malformed, Overlong, Asked}
-use Rattle.machine_host.specs.Machine.{Fate, Machine}
-use Rattle.machine_host.specs.Machine.Fate.{Gives, Works, Orders, Cuts, Restarts, Recovers}
-use Rattle.machine_host.specs.Commands.{fate, meaning, refusal, unless_refused, while_interrupted}
-use Rattle.outcomes.specs.Finds.{IsReady}
-use Rattle.outcomes.specs.Seen.{Seen, may_show}
-use Rattle.outcomes.specs.Stops.{IsProgram, inside, is_of_program, led_to}
-use Rattle.asked_reads.specs.declared.read.Read.{Read}
-use Rattle.asked_reads.specs.declared.read.Read.TheVariants.{Volume, Blocks, File}
-use Rattle.sights.specs.declared.way.Way.{Way}
-use Rattle.sights.specs.Ways.{blocks_way}
-use Rattle.sights.proofs.ShowLemmas.{tests_same}
-use Rattle.cut_places.specs.declared.place.CutPlace.{CutPlace}
-use Rattle.cut_places.specs.declared.place.CutPlace.TheVariants.{Before, Inside}
-use Rattle.cut_places.specs.FileMixing.{way_left}
-use Rattle.cut_places.specs.Places.{Stop, cut_places, first_stop}
-use Rattle.cut_places.proofs.LeftLemmas.{left_same}
-use Rattle.cut_places.proofs.WorkLemmas.{ChangesNone, IsWorkAs, works_or_none}
-use Rattle.value_tables.specs.Listed.{IsSound}
-use Rattle.value_tables.proofs.SoundLemmas.{next}
+use Rattle.explorer.specs.MachineModel.Machine.{Fate, Machine}
+use Rattle.explorer.specs.MachineModel.Machine.Fate.{Gives, Works, Orders, Cuts, Restarts, Recovers}
+use Rattle.explorer.specs.MachineModel.Commands.{fate, meaning, refusal, unless_refused, while_interrupted}
+use Rattle.explorer.specs.Outcomes.Finds.{IsReady}
+use Rattle.explorer.specs.Outcomes.Seen.{Seen, may_show}
+use Rattle.explorer.specs.Outcomes.Stops.{IsProgram, inside, is_of_program, led_to}
+use Rattle.explorer.specs.AskedReads.declared.read.Read.{Read}
+use Rattle.explorer.specs.AskedReads.declared.read.Read.TheVariants.{Volume, Blocks, File}
+use Rattle.explorer.specs.SightsSeen.declared.way.Way.{Way}
+use Rattle.explorer.specs.SightsSeen.Ways.{blocks_way}
+use Rattle.explorer.proofs.SightsSeen.ShowLemmas.{tests_same}
+use Rattle.explorer.specs.CutPlaces.declared.place.CutPlace.{CutPlace}
+use Rattle.explorer.specs.CutPlaces.declared.place.CutPlace.TheVariants.{Before, Inside}
+use Rattle.explorer.specs.CutPlaces.FileMixing.{way_left}
+use Rattle.explorer.specs.CutPlaces.Places.{Stop, cut_places, first_stop}
+use Rattle.explorer.proofs.CutPlaces.LeftLemmas.{left_same}
+use Rattle.explorer.proofs.CutPlaces.WorkLemmas.{ChangesNone, IsWorkAs, works_or_none}
+use Rattle.explorer.specs.ValueTables.Listed.{IsSound}
+use Rattle.explorer.proofs.ValueTables.SoundLemmas.{next}
 use Rattle.outcome_walk.specs.declared.level.Link.TheVariants.{Alone}
 use Rattle.outcome_walk.specs.declared.level.Rows.{Rows}
 use Rattle.outcome_walk.specs.declared.sides.Sides.{Sides}

@@ -3,22 +3,22 @@ use Rattle.std.proofs.Common.{◌≡◌, ◌&&◌, ℕ, Bool, Option, Some, List
 use Rattle.word_tables.specs.declared.geometry.Geometry.{Geometry}
 use Rattle.script_text.specs.declared.command.Command.{Command}
 use Rattle.script_text.specs.Action.{action_of}
-use Rattle.machine_host.specs.Machine.{Machine}
-use Rattle.machine_host.specs.Commands.{fate}
-use Rattle.outcomes.specs.Seen.{Seen, may_show}
-use Rattle.outcomes.specs.Stops.{led_to}
-use Rattle.asked_reads.specs.declared.question.Question.{Question}
-use Rattle.asked_reads.specs.declared.read.Read.{Read}
-use Rattle.asked_reads.specs.Asking.{files_asked, may_be_replies}
-use Rattle.asked_reads.specs.Program.{inputs_of_lines}
-use Rattle.asked_reads.specs.Reads.{block_read, file_read, page_read}
-use Rattle.cut_places.specs.declared.sight.Sight.{Sight}
-use Rattle.cut_places.specs.Following.{Follows, IsWhole}
-use Rattle.cut_places.specs.FilesState.{FilesState}
-use Rattle.cut_places.specs.SeesFiles.{are_held}
-use Rattle.cut_places.specs.Sights.{shows}
-use Rattle.cut_places.proofs.MayShowLemmas.{shows_now}
-use Rattle.value_tables.specs.Looking.{IsOf}
+use Rattle.explorer.specs.MachineModel.Machine.{Machine}
+use Rattle.explorer.specs.MachineModel.Commands.{fate}
+use Rattle.explorer.specs.Outcomes.Seen.{Seen, may_show}
+use Rattle.explorer.specs.Outcomes.Stops.{led_to}
+use Rattle.explorer.specs.AskedReads.declared.question.Question.{Question}
+use Rattle.explorer.specs.AskedReads.declared.read.Read.{Read}
+use Rattle.explorer.specs.AskedReads.Asking.{files_asked, may_be_replies}
+use Rattle.explorer.specs.AskedReads.Program.{inputs_of_lines}
+use Rattle.explorer.specs.AskedReads.Reads.{block_read, file_read, page_read}
+use Rattle.explorer.specs.CutPlaces.declared.sight.Sight.{Sight}
+use Rattle.explorer.specs.CutPlaces.Following.{Follows, IsWhole}
+use Rattle.explorer.specs.CutPlaces.FilesState.{FilesState}
+use Rattle.explorer.specs.CutPlaces.SeesFiles.{are_held}
+use Rattle.explorer.specs.CutPlaces.Sights.{shows}
+use Rattle.explorer.proofs.CutPlaces.MayShowLemmas.{shows_now}
+use Rattle.explorer.specs.ValueTables.Looking.{IsOf}
 use Rattle.outcome_walk.specs.declared.level.Choice.{Choice as Fitted}
 use Rattle.outcome_walk.specs.Holding.{way_held}
 use Rattle.outcome_walk.specs.Walking.{Way}

@@ -2,11 +2,11 @@
 use Rattle.std.proofs.Common.{◌≡◌, ℕ, Bool, true, false, Option, Some, None, List, [], ◌∷◌, ◌++◌, is_some, refl, sym, ap, subst, ◌∙◌, append_assoc, append-nil}
 use Rattle.std.specs.Prelude.{Contains, option_map, if◌then◌else◌}
 use Rattle.script_text.specs.Script.{Input}
-use Rattle.machine_host.specs.Machine.{Machine}
-use Rattle.outcomes.specs.Seen.{Seen, may_show}
-use Rattle.asked_reads.specs.declared.read.Read.{Read}
-use Rattle.cut_places.specs.declared.place.CutPlace.{CutPlace}
-use Rattle.cut_places.specs.Places.{Stop, cut_places, first_stop}
+use Rattle.explorer.specs.MachineModel.Machine.{Machine}
+use Rattle.explorer.specs.Outcomes.Seen.{Seen, may_show}
+use Rattle.explorer.specs.AskedReads.declared.read.Read.{Read}
+use Rattle.explorer.specs.CutPlaces.declared.place.CutPlace.{CutPlace}
+use Rattle.explorer.specs.CutPlaces.Places.{Stop, cut_places, first_stop}
 use Rattle.outcome_lists.specs.Choices.{Choice, choices, states}
 use Rattle.outcome_lists.specs.Listing.{IsFound, Picks, asked_with, text_of}
 use Rattle.outcome_lists.specs.Outcomes.{Asked, Outcome, and_seen, begun, grown, look_of, nothing, outcomes_from, outcomes_of, place_of}

@@ -4,15 +4,15 @@ use Rattle.block_sights.specs.Sights.{Sight as BlockSight}
 use Rattle.nvm_model.specs.Cell.{Cell}
 use Rattle.script_text.specs.declared.command.Command.{Command}
 use Rattle.script_text.specs.Action.{action_of}
-use Rattle.machine_host.specs.Machine.{Machine}
-use Rattle.machine_host.specs.Commands.{fate}
-use Rattle.outcomes.specs.Stops.{led_to}
-use Rattle.asked_reads.specs.Program.{inputs_of_lines}
-use Rattle.asked_reads.specs.declared.read.Read.{Read}
-use Rattle.asked_reads.specs.declared.read.Read.TheVariants.{Volume, Blocks, File}
-use Rattle.value_tables.specs.Left.{FileSide, file_side}
-use Rattle.value_tables.specs.Left.FileSide.{NoFile, PastEnd, OfLine}
-use Rattle.value_tables.specs.Values.{cells_of, history_of, values_with, with_all}
+use Rattle.explorer.specs.MachineModel.Machine.{Machine}
+use Rattle.explorer.specs.MachineModel.Commands.{fate}
+use Rattle.explorer.specs.Outcomes.Stops.{led_to}
+use Rattle.explorer.specs.AskedReads.Program.{inputs_of_lines}
+use Rattle.explorer.specs.AskedReads.declared.read.Read.{Read}
+use Rattle.explorer.specs.AskedReads.declared.read.Read.TheVariants.{Volume, Blocks, File}
+use Rattle.explorer.specs.ValueTables.Left.{FileSide, file_side}
+use Rattle.explorer.specs.ValueTables.Left.FileSide.{NoFile, PastEnd, OfLine}
+use Rattle.explorer.specs.ValueTables.Values.{cells_of, history_of, values_with, with_all}
 use Rattle.outcome_lists.specs.Choices.{sights_through, states, values_through}
 
 -- values of lines behind one another

@@ -5,11 +5,11 @@ use Rattle.std.proofs.lemmas.Bool.{and_from, and_left, and_parts, and_right, eq-
 use Rattle.std.proofs.lemmas.Slice.Eq.{bytes_eq-Decides}
 use Rattle.nvm_model.specs.Listing.{is_before}
 use Rattle.nvm_model.proofs.OrderLemmas.{before-back, before-itself}
-use Rattle.asked_reads.specs.declared.read.Read.{Read}
-use Rattle.asked_reads.specs.declared.read.Read.TheVariants.{Volume, Blocks, File}
-use Rattle.sights.specs.declared.way.Way.{Way}
-use Rattle.sights.specs.declared.way.Way.TheVariants.{Each, Together, ByPage}
-use Rattle.cut_places.proofs.AllLemmas.{same_test}
+use Rattle.explorer.specs.AskedReads.declared.read.Read.{Read}
+use Rattle.explorer.specs.AskedReads.declared.read.Read.TheVariants.{Volume, Blocks, File}
+use Rattle.explorer.specs.SightsSeen.declared.way.Way.{Way}
+use Rattle.explorer.specs.SightsSeen.declared.way.Way.TheVariants.{Each, Together, ByPage}
+use Rattle.explorer.proofs.CutPlaces.AllLemmas.{same_test}
 use Rattle.outcome_lists.specs.declared.ways.Ways.{Ways}
 use Rattle.outcome_lists.specs.Mixing.{same_kind, way_of}
 use Rattle.outcome_lists.specs.Parts.{comes_before, same_part}

@@ -9,20 +9,20 @@ use Rattle.nvm_model.specs.Page.{Page, cell_of, fill, persist, put}
 use Rattle.pm_volume.specs.Refusals.{physical_offset}
 use Rattle.script_text.specs.Action.{Action}
 use Rattle.script_text.specs.Action.Action.{VStore, VSync, VPSync, VDiscard, VDiscardIf, ClearVolume}
-use Rattle.machine_host.specs.Commands.{meaning}
-use Rattle.machine_host.specs.OnVolume.{part_synced_at, persist_at}
-use Rattle.durable.specs.Durable.{HaveLines}
-use Rattle.outcomes.specs.Left.{stored_passes, volume_may_pass, volume_passes}
-use Rattle.outcomes.specs.Pages.{PageRead, PageReply, all_lines_read, line_fits, lines_read}
-use Rattle.outcomes.specs.Pages.PageReply.{Shows, Poison, Refuses}
-use Rattle.outcomes.specs.Ways.{all_pass, each_passes, group_passes, groups_pass}
-use Rattle.asked_reads.specs.Fitting.{cell_fits}
-use Rattle.sights.specs.Seeing.{or_zeros, seen}
-use Rattle.sights.proofs.SeenLemmas.{seen-fill, seen-persist}
-use Rattle.sights.proofs.ShowLemmas.{fits_seen, tests_same}
-use Rattle.value_tables.specs.Listed.{HasWords}
-use Rattle.value_tables.proofs.HistoryLemmas.{made_has}
-use Rattle.witnesses.proofs.ListLemmas.{IsAmong, all_from, all_of}
+use Rattle.explorer.specs.MachineModel.Commands.{meaning}
+use Rattle.explorer.specs.MachineModel.OnVolume.{part_synced_at, persist_at}
+use Rattle.explorer.specs.Durable.Durable.{HaveLines}
+use Rattle.explorer.specs.Outcomes.Left.{stored_passes, volume_may_pass, volume_passes}
+use Rattle.explorer.specs.Outcomes.Pages.{PageRead, PageReply, all_lines_read, line_fits, lines_read}
+use Rattle.explorer.specs.Outcomes.Pages.PageReply.{Shows, Poison, Refuses}
+use Rattle.explorer.specs.Outcomes.Ways.{all_pass, each_passes, group_passes, groups_pass}
+use Rattle.explorer.specs.AskedReads.Fitting.{cell_fits}
+use Rattle.explorer.specs.SightsSeen.Seeing.{or_zeros, seen}
+use Rattle.explorer.proofs.SightsSeen.SeenLemmas.{seen-fill, seen-persist}
+use Rattle.explorer.proofs.SightsSeen.ShowLemmas.{fits_seen, tests_same}
+use Rattle.explorer.specs.ValueTables.Listed.{HasWords}
+use Rattle.explorer.proofs.ValueTables.HistoryLemmas.{made_has}
+use Rattle.explorer.proofs.Witnesses.ListLemmas.{IsAmong, all_from, all_of}
 use Rattle.outcome_lists.specs.Apart.{AreThere, AreWords, EachAlone, GroupsAlone, IsInside, IsWordRead, IsWordReply, OneAlone, always, fits_alone, grouped, groups_left, line_of, same_line}
 use Rattle.outcome_lists.proofs.ApartLemmas.{all_true, line_alone, other_line}
 

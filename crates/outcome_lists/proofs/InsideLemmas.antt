@@ -6,21 +6,21 @@ use Rattle.nvm_model.specs.Page.{Page}
 use Rattle.nvm_model.specs.Storage.{Block, File, Mapping}
 use Rattle.script_text.specs.Action.{Action}
 use Rattle.script_text.specs.Action.Action.{PoisonBlock, PoisonFile, PoisonVolume, WeakenFile, WeakenVolume}
-use Rattle.machine_host.specs.Machine.{Machine}
-use Rattle.machine_host.specs.Commands.{meaning, while_interrupted}
-use Rattle.durable.proofs.StepKinds.{Alters, blocks_after, files_made, volume_after}
-use Rattle.outcomes.specs.Blocks.{BlockRead, is_block_reply}
-use Rattle.outcomes.specs.Files.{FileRead}
-use Rattle.outcomes.specs.Left.{volume_may_pass}
-use Rattle.outcomes.specs.Pages.{PageRead, all_lines_read, is_reply, line_fits}
-use Rattle.outcomes.specs.Seen.{Seen, block_reads, blocks_may_show, file_reads, files_may_show, may_show, volume_may_show, volume_reads}
-use Rattle.outcomes.specs.Seen.Seen.{of_blocks, of_file, of_volume}
-use Rattle.asked_reads.specs.declared.read.Read.{Read}
-use Rattle.sights.specs.Ways.{blocks_way, lines_way}
-use Rattle.sights.specs.declared.way.Way.{Way}
-use Rattle.cut_places.specs.FileMixing.{way_left}
-use Rattle.value_tables.specs.Listed.{IsSound}
-use Rattle.witnesses.proofs.ListLemmas.{IsAmong}
+use Rattle.explorer.specs.MachineModel.Machine.{Machine}
+use Rattle.explorer.specs.MachineModel.Commands.{meaning, while_interrupted}
+use Rattle.explorer.proofs.Durable.StepKinds.{Alters, blocks_after, files_made, volume_after}
+use Rattle.explorer.specs.Outcomes.Blocks.{BlockRead, is_block_reply}
+use Rattle.explorer.specs.Outcomes.Files.{FileRead}
+use Rattle.explorer.specs.Outcomes.Left.{volume_may_pass}
+use Rattle.explorer.specs.Outcomes.Pages.{PageRead, all_lines_read, is_reply, line_fits}
+use Rattle.explorer.specs.Outcomes.Seen.{Seen, block_reads, blocks_may_show, file_reads, files_may_show, may_show, volume_may_show, volume_reads}
+use Rattle.explorer.specs.Outcomes.Seen.Seen.{of_blocks, of_file, of_volume}
+use Rattle.explorer.specs.AskedReads.declared.read.Read.{Read}
+use Rattle.explorer.specs.SightsSeen.Ways.{blocks_way, lines_way}
+use Rattle.explorer.specs.SightsSeen.declared.way.Way.{Way}
+use Rattle.explorer.specs.CutPlaces.FileMixing.{way_left}
+use Rattle.explorer.specs.ValueTables.Listed.{IsSound}
+use Rattle.explorer.proofs.Witnesses.ListLemmas.{IsAmong}
 use Rattle.outcome_lists.specs.Apart.{IsWordRead, fits_alone, grouped}
 use Rattle.outcome_lists.specs.ApartBlocks.{shows_block}
 use Rattle.outcome_lists.specs.ApartFiles.{shows_word}

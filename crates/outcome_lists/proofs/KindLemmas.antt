@@ -8,12 +8,12 @@ use Rattle.nvm_model.specs.Listing.{is_before}
 use Rattle.nvm_model.specs.Page.{Page}
 use Rattle.nvm_model.proofs.OrderLemmas.{before-itself}
 use Rattle.word_tables.specs.declared.geometry.Geometry.{Geometry}
-use Rattle.machine_host.proofs.RefusalLemmas.{read_within}
-use Rattle.outcomes.specs.Files.{FileRead}
-use Rattle.outcomes.specs.Pages.{PageRead}
-use Rattle.outcomes.specs.Seen.{Seen, block_reads, file_reads, volume_reads}
-use Rattle.outcomes.specs.Seen.Seen.{of_blocks, of_file, of_volume}
-use Rattle.asked_reads.specs.declared.read.Read.TheVariants.{Volume, File}
+use Rattle.explorer.proofs.MachineModel.RefusalLemmas.{read_within}
+use Rattle.explorer.specs.Outcomes.Files.{FileRead}
+use Rattle.explorer.specs.Outcomes.Pages.{PageRead}
+use Rattle.explorer.specs.Outcomes.Seen.{Seen, block_reads, file_reads, volume_reads}
+use Rattle.explorer.specs.Outcomes.Seen.Seen.{of_blocks, of_file, of_volume}
+use Rattle.explorer.specs.AskedReads.declared.read.Read.TheVariants.{Volume, File}
 use Rattle.outcome_lists.specs.Apart.{AreApart, AreWords, IsApart, IsInside, IsWordRead}
 use Rattle.outcome_lists.specs.ApartBlocks.{AreOfOneBlock}
 use Rattle.outcome_lists.specs.ApartFiles.{AreDistinctWords, is_same_word}

@@ -7,23 +7,23 @@ use Rattle.word_tables.specs.declared.geometry.Geometry.{Geometry}
 use Rattle.script_text.specs.Action.{Action}
 use Rattle.script_text.specs.Action.Action.{BWrite, VPSync}
 use Rattle.pm_volume.specs.Refusals.{physical_offset}
-use Rattle.machine_host.specs.Commands.{meaning}
-use Rattle.machine_host.specs.Meaning.{BlocksLeft, FilesLeft, VolumeLeft}
-use Rattle.machine_host.specs.Meaning.BlocksLeft.{Same, Either, Mixed}
-use Rattle.machine_host.specs.Meaning.FilesLeft.{Unchanged, OldOrNew, StoredInPart, SyncedInPart}
-use Rattle.machine_host.specs.Meaning.VolumeLeft.{Kept, PartStored, PartSynced, AllOrNone, PageByPage}
-use Rattle.machine_host.specs.OnVolume.{part_synced_at}
-use Rattle.outcomes.specs.Blocks.{BlockRead}
-use Rattle.outcomes.specs.Files.{FileRead}
-use Rattle.outcomes.specs.Pages.{PageRead}
-use Rattle.outcomes.specs.Seen.Seen.{of_blocks, of_file, of_volume}
-use Rattle.asked_reads.specs.declared.read.Read.{Read}
-use Rattle.asked_reads.specs.declared.read.Read.TheVariants.{Volume, Blocks, File}
-use Rattle.sights.specs.Ways.{blocks_way, lines_way}
-use Rattle.sights.specs.declared.way.Way.{Way}
-use Rattle.sights.specs.declared.way.Way.TheVariants.{Each, Together, ByPage}
-use Rattle.cut_places.specs.FileMixing.{way_left}
-use Rattle.cut_places.proofs.AllLemmas.{same_test}
+use Rattle.explorer.specs.MachineModel.Commands.{meaning}
+use Rattle.explorer.specs.MachineModel.Meaning.{BlocksLeft, FilesLeft, VolumeLeft}
+use Rattle.explorer.specs.MachineModel.Meaning.BlocksLeft.{Same, Either, Mixed}
+use Rattle.explorer.specs.MachineModel.Meaning.FilesLeft.{Unchanged, OldOrNew, StoredInPart, SyncedInPart}
+use Rattle.explorer.specs.MachineModel.Meaning.VolumeLeft.{Kept, PartStored, PartSynced, AllOrNone, PageByPage}
+use Rattle.explorer.specs.MachineModel.OnVolume.{part_synced_at}
+use Rattle.explorer.specs.Outcomes.Blocks.{BlockRead}
+use Rattle.explorer.specs.Outcomes.Files.{FileRead}
+use Rattle.explorer.specs.Outcomes.Pages.{PageRead}
+use Rattle.explorer.specs.Outcomes.Seen.Seen.{of_blocks, of_file, of_volume}
+use Rattle.explorer.specs.AskedReads.declared.read.Read.{Read}
+use Rattle.explorer.specs.AskedReads.declared.read.Read.TheVariants.{Volume, Blocks, File}
+use Rattle.explorer.specs.SightsSeen.Ways.{blocks_way, lines_way}
+use Rattle.explorer.specs.SightsSeen.declared.way.Way.{Way}
+use Rattle.explorer.specs.SightsSeen.declared.way.Way.TheVariants.{Each, Together, ByPage}
+use Rattle.explorer.specs.CutPlaces.FileMixing.{way_left}
+use Rattle.explorer.proofs.CutPlaces.AllLemmas.{same_test}
 use Rattle.outcome_lists.specs.Apart.{grouped, groups_left, line_of, same_line, same_page}
 use Rattle.outcome_lists.specs.ApartBlocks.{blocks_apart, is_same_block}
 use Rattle.outcome_lists.specs.ApartFiles.{is_same_word, words_apart}

@@ -3,16 +3,16 @@ use Rattle.std.proofs.Common.{◌≡◌, ◌+◌, ◌<◌, ◌≤◌, ℕ, true,
 use Rattle.std.specs.List.{list_all}
 use Rattle.std.proofs.lemmas.List.{drop_all}
 use Rattle.word_tables.specs.declared.geometry.Geometry.{Geometry}
-use Rattle.machine_host.specs.Machine.{Machine}
-use Rattle.asked_reads.specs.declared.read.Read.{Read}
-use Rattle.cut_places.specs.declared.sight.Sight.{Sight}
-use Rattle.cut_places.specs.SeesFiles.{is_held}
-use Rattle.cut_places.proofs.GoingLemmas.{at_line}
-use Rattle.sights.specs.Units.{block_numbers, line_numbers}
-use Rattle.value_tables.specs.Looking.{blocks_looked_at, blocks_touched, file_lines_looked_at, file_lines_touched, lines_looked_at, lines_touched, none_refused}
-use Rattle.value_tables.specs.Rows.{read_refusal}
-use Rattle.value_tables.specs.Sides.{HasRun}
-use Rattle.value_tables.proofs.LookLemmas.{blocks_after, blocks_next, files_after, files_next, lines_after, lines_next}
+use Rattle.explorer.specs.MachineModel.Machine.{Machine}
+use Rattle.explorer.specs.AskedReads.declared.read.Read.{Read}
+use Rattle.explorer.specs.CutPlaces.declared.sight.Sight.{Sight}
+use Rattle.explorer.specs.CutPlaces.SeesFiles.{is_held}
+use Rattle.explorer.proofs.CutPlaces.GoingLemmas.{at_line}
+use Rattle.explorer.specs.SightsSeen.Units.{block_numbers, line_numbers}
+use Rattle.explorer.specs.ValueTables.Looking.{blocks_looked_at, blocks_touched, file_lines_looked_at, file_lines_touched, lines_looked_at, lines_touched, none_refused}
+use Rattle.explorer.specs.ValueTables.Rows.{read_refusal}
+use Rattle.explorer.specs.ValueTables.Sides.{HasRun}
+use Rattle.explorer.proofs.ValueTables.LookLemmas.{blocks_after, blocks_next, files_after, files_next, lines_after, lines_next}
 use Rattle.outcome_walk.specs.declared.level.Level.{Level}
 use Rattle.outcome_walk.specs.declared.level.Link.{Link}
 use Rattle.outcome_walk.specs.Holding.{part_held, ways_held}

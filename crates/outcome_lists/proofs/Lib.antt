@@ -42,3 +42,7 @@ pub mod PairLemmas
 pub mod BitsLemmas
 pub mod StateBitsLemmas
 pub mod OnceLemmas
+pub use Rattle.explorer.proofs as Explorer
+pub use Rattle.explorer.proofs.MachineHost
+pub use Rattle.explorer.proofs.SightsSeen
+pub use Rattle.explorer.proofs.ValueTables

@@ -2,9 +2,9 @@
 use Rattle.std.proofs.Common.{◌≡◌, inl, inr, ℕ, Option, Some, None, List, [], ◌∷◌, ◌++◌, refl, sym, ap, subst, ◌∙◌, append_assoc, append-nil, arith}
 use Rattle.std.specs.Prelude.{Contains}
 use Rattle.std.proofs.lemmas.List.Elements.{Contains-append_cases, Contains-append_left, Contains-append_right, Contains-push, Contains-push_cases}
-use Rattle.outcomes.specs.Seen.{Seen}
-use Rattle.asked_reads.specs.declared.read.Read.{Read}
-use Rattle.cut_places.specs.declared.place.CutPlace.{CutPlace}
+use Rattle.explorer.specs.Outcomes.Seen.{Seen}
+use Rattle.explorer.specs.AskedReads.declared.read.Read.{Read}
+use Rattle.explorer.specs.CutPlaces.declared.place.CutPlace.{CutPlace}
 use Rattle.outcome_lists.specs.Choices.{Choice}
 use Rattle.outcome_lists.specs.Listing.{Picks, asked_with, text_of}
 use Rattle.outcome_lists.specs.Outcomes.{Asked, Outcome, and_seen, grown, if_found, look_of, outcomes_from, with_choice, with_choices}

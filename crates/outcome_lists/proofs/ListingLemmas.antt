@@ -4,12 +4,12 @@ use Rattle.std.specs.Prelude.{codes, flat_map, nat_lt, if◌then◌else◌}
 use Rattle.outcome_walk.specs.Numbers.{numeral}
 use Rattle.outcome_walk.specs.Walking.{Trail}
 use Rattle.script_text.specs.Script.{Input}
-use Rattle.machine_host.specs.Machine.{Machine}
-use Rattle.outcomes.specs.Finds.{IsReady}
-use Rattle.outcomes.specs.Stops.{IsProgram}
-use Rattle.asked_reads.specs.declared.read.Read.{Read}
-use Rattle.cut_places.specs.Places.{cut_places}
-use Rattle.value_tables.specs.Listed.{IsSound}
+use Rattle.explorer.specs.MachineModel.Machine.{Machine}
+use Rattle.explorer.specs.Outcomes.Finds.{IsReady}
+use Rattle.explorer.specs.Outcomes.Stops.{IsProgram}
+use Rattle.explorer.specs.AskedReads.declared.read.Read.{Read}
+use Rattle.explorer.specs.CutPlaces.Places.{cut_places}
+use Rattle.explorer.specs.ValueTables.Listed.{IsSound}
 use Rattle.outcome_lists.specs.declared.place.Place.{Place}
 use Rattle.outcome_lists.specs.Choices.{states}
 use Rattle.outcome_lists.specs.Levels.{levels, places}

@@ -1,12 +1,12 @@
 -- The look that a question's reads are.
 use Rattle.std.proofs.Common.{◌≡◌, List, [], ◌∷◌, ◌++◌, map, refl, ap, ◌∙◌, append-nil}
-use Rattle.outcomes.specs.Blocks.{BlockRead}
-use Rattle.outcomes.specs.Files.{FileRead}
-use Rattle.outcomes.specs.Pages.{PageRead}
-use Rattle.outcomes.specs.Seen.{Seen, block_reads, file_reads, volume_reads}
-use Rattle.outcomes.specs.Seen.Seen.{of_blocks, of_file, of_volume}
-use Rattle.asked_reads.specs.declared.question.Question.{Question}
-use Rattle.asked_reads.specs.Asking.{IsLook}
+use Rattle.explorer.specs.Outcomes.Blocks.{BlockRead}
+use Rattle.explorer.specs.Outcomes.Files.{FileRead}
+use Rattle.explorer.specs.Outcomes.Pages.{PageRead}
+use Rattle.explorer.specs.Outcomes.Seen.{Seen, block_reads, file_reads, volume_reads}
+use Rattle.explorer.specs.Outcomes.Seen.Seen.{of_blocks, of_file, of_volume}
+use Rattle.explorer.specs.AskedReads.declared.question.Question.{Question}
+use Rattle.explorer.specs.AskedReads.Asking.{IsLook}
 use Rattle.outcome_lists.specs.Asking.{asked}
 use Rattle.outcome_lists.specs.Outcomes.{Asked, look_of}
 

@@ -11,29 +11,29 @@ use Rattle.nvm_model.specs.Blocks.{nth}
 use Rattle.nvm_model.specs.Cell.{Cell}
 use Rattle.block_sights.specs.Sights.{Sight, sight}
 use Rattle.block_sights.specs.Sights.Sight.{Whole, Scar, BadLine}
-use Rattle.sights.specs.BlockTelling.{same_sight}
-use Rattle.sights.specs.Seeing.{seen}
+use Rattle.explorer.specs.SightsSeen.BlockTelling.{same_sight}
+use Rattle.explorer.specs.SightsSeen.Seeing.{seen}
 use Rattle.script_text.specs.Script.{Input}
-use Rattle.machine_host.specs.Machine.{Machine}
-use Rattle.outcomes.specs.Blocks.{BlockRead}
-use Rattle.outcomes.specs.Files.{FileRead}
-use Rattle.outcomes.specs.Pages.{PageRead, PageReply}
-use Rattle.outcomes.specs.Pages.PageReply.{Poison, Refuses, Shows}
-use Rattle.outcomes.specs.Seen.{Seen, block_reads, file_reads, volume_reads}
-use Rattle.outcomes.specs.Seen.Seen.{of_blocks, of_file, of_volume}
-use Rattle.asked_reads.specs.declared.read.Read.{Read}
-use Rattle.asked_reads.specs.declared.read.Read.TheVariants.{Volume, Blocks, File}
-use Rattle.cut_places.specs.declared.place.CutPlace.{CutPlace}
-use Rattle.cut_places.specs.Places.{cut_places}
-use Rattle.value_tables.specs.Left.{file_side}
-use Rattle.value_tables.specs.Listed.{reply_of}
-use Rattle.value_tables.specs.Values.{cells_of, history_of, values_with, with_all}
+use Rattle.explorer.specs.MachineModel.Machine.{Machine}
+use Rattle.explorer.specs.Outcomes.Blocks.{BlockRead}
+use Rattle.explorer.specs.Outcomes.Files.{FileRead}
+use Rattle.explorer.specs.Outcomes.Pages.{PageRead, PageReply}
+use Rattle.explorer.specs.Outcomes.Pages.PageReply.{Poison, Refuses, Shows}
+use Rattle.explorer.specs.Outcomes.Seen.{Seen, block_reads, file_reads, volume_reads}
+use Rattle.explorer.specs.Outcomes.Seen.Seen.{of_blocks, of_file, of_volume}
+use Rattle.explorer.specs.AskedReads.declared.read.Read.{Read}
+use Rattle.explorer.specs.AskedReads.declared.read.Read.TheVariants.{Volume, Blocks, File}
+use Rattle.explorer.specs.CutPlaces.declared.place.CutPlace.{CutPlace}
+use Rattle.explorer.specs.CutPlaces.Places.{cut_places}
+use Rattle.explorer.specs.ValueTables.Left.{file_side}
+use Rattle.explorer.specs.ValueTables.Listed.{reply_of}
+use Rattle.explorer.specs.ValueTables.Values.{cells_of, history_of, values_with, with_all}
 use Rattle.outcome_lists.specs.Choices.{Choice, block_choice, choices, file_choices, head, sights_through, states, value_choice, values_through, word_choices}
 use Rattle.outcome_lists.specs.Listing.{Pairwise, StandOnce}
 use Rattle.outcome_lists.specs.Outcomes.{Asked, Outcome, and_seen, begun, grown, if_found, look_of, nothing, outcomes_from, outcomes_of, place_of, with_choice, with_choices}
 use Rattle.outcome_lists.proofs.BitsLemmas.{Are64}
 use Rattle.outcome_lists.proofs.StateBitsLemmas.{of_64_bits}
-use Rattle.durable.specs.Durable.{BringBytes}
+use Rattle.explorer.specs.Durable.Durable.{BringBytes}
 use Rattle.explorer.specs.Starting.{AreDurable, HaveDurable}
 use Rattle.outcome_lists.proofs.LookLemmas.{blocks_back, files_back, volume_back}
 use Rattle.outcome_lists.proofs.PairLemmas.{Differ, all_joined, all_made, all_once, pairs_joined, pairs_made, pairs_told}

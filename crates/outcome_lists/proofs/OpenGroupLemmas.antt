@@ -2,8 +2,8 @@
 use Rattle.std.proofs.Common.{◌≡◌, inl, inr, ◌&&◌, ◌||◌, not, Bool, true, false, List, [], ◌∷◌, refl, sym, ap, ◌∙◌}
 use Rattle.std.specs.List.{list_all}
 use Rattle.std.proofs.lemmas.Bool.{or_left}
-use Rattle.cut_places.proofs.AllLemmas.{same_where}
-use Rattle.witnesses.proofs.ListLemmas.{IsAmong}
+use Rattle.explorer.proofs.CutPlaces.AllLemmas.{same_where}
+use Rattle.explorer.proofs.Witnesses.ListLemmas.{IsAmong}
 use Rattle.outcome_lists.specs.Apart.{grouped}
 use Rattle.outcome_lists.proofs.ApartBlocksLemmas.{all_same}
 

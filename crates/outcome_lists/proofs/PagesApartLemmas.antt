@@ -3,13 +3,13 @@ use Rattle.std.proofs.Common.{◌≡◌, ℕ, ◌/◌, ◌==◌, ◌&&◌, ◌||
 use Rattle.std.specs.List.{list_all}
 use Rattle.std.proofs.lemmas.Bool.{and_parts, eqb-false, eqb-true, or_left, or_right}
 use Rattle.nvm_model.specs.Page.{Page, cell_of}
-use Rattle.outcomes.specs.Files.{file_fits}
-use Rattle.outcomes.specs.Pages.{PageRead, all_lines_read, line_fits}
-use Rattle.sights.specs.Seeing.{seen}
-use Rattle.sights.proofs.ShowLemmas.{fits_seen}
-use Rattle.cut_places.proofs.AllLemmas.{same_test}
-use Rattle.value_tables.specs.Listed.{HasWords}
-use Rattle.witnesses.proofs.ListLemmas.{IsAmong, all_from, all_of}
+use Rattle.explorer.specs.Outcomes.Files.{file_fits}
+use Rattle.explorer.specs.Outcomes.Pages.{PageRead, all_lines_read, line_fits}
+use Rattle.explorer.specs.SightsSeen.Seeing.{seen}
+use Rattle.explorer.proofs.SightsSeen.ShowLemmas.{fits_seen}
+use Rattle.explorer.proofs.CutPlaces.AllLemmas.{same_test}
+use Rattle.explorer.specs.ValueTables.Listed.{HasWords}
+use Rattle.explorer.proofs.Witnesses.ListLemmas.{IsAmong, all_from, all_of}
 use Rattle.outcome_lists.specs.ApartFiles.{IsOfOneWord}
 use Rattle.outcome_lists.proofs.ApartBlocksLemmas.{all_same, and_true, then_so, where_so}
 use Rattle.outcome_lists.proofs.WordReadLemmas.{AreApart, by_any, cell_apart, each_word, is_looking, lines_apart, other_line, unlooking}

@@ -1,7 +1,7 @@
 -- Lists whose items differ pairwise.
 use Rattle.std.proofs.Common.{◌≡◌, ◌||◌, Bool, true, false, cond, List, [], ◌∷◌, ◌++◌, map, refl, sym, ap, ◌∙◌}
 use Rattle.std.specs.List.{AllByRecursion, list_any}
-use Rattle.value_tables.specs.Values.{with_all, with_one}
+use Rattle.explorer.specs.ValueTables.Values.{with_all, with_one}
 use Rattle.outcome_lists.specs.Listing.{Pairwise}
 
 -- what all of them are, all of them are that are joined, made or told from them

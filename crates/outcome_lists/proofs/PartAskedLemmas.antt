@@ -5,18 +5,18 @@ use Rattle.std.specs.List.{list_all, range_with_len}
 use Rattle.std.proofs.lemmas.Bool.{and_from}
 use Rattle.word_tables.specs.declared.geometry.Geometry.{Geometry}
 use Rattle.reply_text.specs.declared.reply.Why.TheVariants.{Missing, Range}
-use Rattle.outcomes.specs.Blocks.{all_numbers_read}
-use Rattle.outcomes.specs.Pages.{PageReply, lines_read}
-use Rattle.outcomes.specs.Pages.PageReply.{Poison, Refuses, Shows}
-use Rattle.outcomes.specs.Seen.Seen.{of_blocks, of_file, of_volume}
-use Rattle.asked_reads.specs.declared.read.Read.{Read}
-use Rattle.asked_reads.specs.declared.read.Read.TheVariants.{Volume, Blocks, File}
+use Rattle.explorer.specs.Outcomes.Blocks.{all_numbers_read}
+use Rattle.explorer.specs.Outcomes.Pages.{PageReply, lines_read}
+use Rattle.explorer.specs.Outcomes.Pages.PageReply.{Poison, Refuses, Shows}
+use Rattle.explorer.specs.Outcomes.Seen.Seen.{of_blocks, of_file, of_volume}
+use Rattle.explorer.specs.AskedReads.declared.read.Read.{Read}
+use Rattle.explorer.specs.AskedReads.declared.read.Read.TheVariants.{Volume, Blocks, File}
 use Rattle.block_sights.specs.Sights.{Sight as BlockSight}
 use Rattle.block_sights.specs.Sights.Sight.{Whole, Scar, BadLine}
-use Rattle.cut_places.specs.declared.sight.Sight.{Sight}
-use Rattle.cut_places.specs.SeesFiles.{is_held}
-use Rattle.value_tables.specs.Listed.{reply_of}
-use Rattle.value_tables.specs.Looking.{file_lines_touched, lines_touched}
+use Rattle.explorer.specs.CutPlaces.declared.sight.Sight.{Sight}
+use Rattle.explorer.specs.CutPlaces.SeesFiles.{is_held}
+use Rattle.explorer.specs.ValueTables.Listed.{reply_of}
+use Rattle.explorer.specs.ValueTables.Looking.{file_lines_touched, lines_touched}
 use Rattle.outcome_lists.specs.Choices.{Choice, choices_from}
 use Rattle.outcome_lists.specs.Courses.{AllWith, AreOf}
 use Rattle.outcome_lists.specs.Outcomes.{and_seen, nothing}

@@ -3,9 +3,9 @@ use Rattle.std.proofs.Common.{◌≡◌, ℕ, ◌+◌, ◌-◌, ◌≤◌, ◌<�
 use Rattle.std.specs.List.{range_with_len}
 use Rattle.std.proofs.lemmas.List.{take_more}
 use Rattle.std.proofs.lemmas.List.FromFn.{map-range_with_len_more}
-use Rattle.value_tables.specs.Rows.{read_refusal}
+use Rattle.explorer.specs.ValueTables.Rows.{read_refusal}
 use Rattle.word_tables.specs.declared.geometry.Geometry.{Geometry}
-use Rattle.asked_reads.specs.declared.read.Read.{Read}
+use Rattle.explorer.specs.AskedReads.declared.read.Read.{Read}
 use Rattle.outcome_lists.specs.Parts.{parts_of_reads, parts_read, unless_refused, with_part, with_parts}
 use Rattle.outcome_lists.proofs.PartOrderLemmas.{with_parts-append}
 

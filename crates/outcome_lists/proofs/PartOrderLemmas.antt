@@ -7,8 +7,8 @@ use Rattle.std.proofs.lemmas.List.Sums.{prefix_len-le-length}
 use Rattle.std.proofs.lemmas.Slice.Eq.{bytes_eq-Decides}
 use Rattle.nvm_model.specs.Listing.{is_before}
 use Rattle.nvm_model.proofs.OrderLemmas.{before-between, before-other}
-use Rattle.asked_reads.specs.declared.read.Read.{Read}
-use Rattle.asked_reads.specs.declared.read.Read.TheVariants.{Volume, Blocks, File}
+use Rattle.explorer.specs.AskedReads.declared.read.Read.{Read}
+use Rattle.explorer.specs.AskedReads.declared.read.Read.TheVariants.{Volume, Blocks, File}
 use Rattle.outcome_lists.specs.Parts.{AreInOrder, comes_before, same_part, with_part, with_parts}
 
 lt-between : (k l m : ℕ) → nat_lt k l ≡ true → nat_lt l m ≡ true → nat_lt k m ≡ true

@@ -7,20 +7,20 @@ use Rattle.std.proofs.lemmas.Bool.{and_parts}
 use Rattle.word_tables.specs.declared.geometry.Geometry.{Geometry}
 use Rattle.block_sights.specs.Sights.{Sight as BlockSight}
 use Rattle.nvm_model.specs.Cell.{Cell}
-use Rattle.machine_host.specs.Machine.{Machine}
-use Rattle.machine_host.proofs.RefusalLemmas.{read_within}
-use Rattle.asked_reads.specs.declared.read.Read.TheVariants.{Volume, Blocks, File}
-use Rattle.cut_places.specs.declared.sight.Sight.{Sight}
-use Rattle.cut_places.specs.Following.{Follows}
-use Rattle.cut_places.specs.SeesFiles.{is_held}
-use Rattle.sights.specs.declared.block_seen.BlockSeen.{BlockSeen}
-use Rattle.sights.specs.declared.line_seen.LineSeen.{LineSeen}
-use Rattle.sights.specs.Units.{AreBlocks, AreLines, block_numbers, line_numbers}
-use Rattle.value_tables.specs.Left.{file_side, files_left}
-use Rattle.value_tables.specs.Looking.{IsOf}
-use Rattle.value_tables.specs.Rows.{read_refusal}
-use Rattle.value_tables.specs.Sides.{side_at}
-use Rattle.value_tables.proofs.FileSideLemmas.{files_rest}
+use Rattle.explorer.specs.MachineModel.Machine.{Machine}
+use Rattle.explorer.proofs.MachineModel.RefusalLemmas.{read_within}
+use Rattle.explorer.specs.AskedReads.declared.read.Read.TheVariants.{Volume, Blocks, File}
+use Rattle.explorer.specs.CutPlaces.declared.sight.Sight.{Sight}
+use Rattle.explorer.specs.CutPlaces.Following.{Follows}
+use Rattle.explorer.specs.CutPlaces.SeesFiles.{is_held}
+use Rattle.explorer.specs.SightsSeen.declared.block_seen.BlockSeen.{BlockSeen}
+use Rattle.explorer.specs.SightsSeen.declared.line_seen.LineSeen.{LineSeen}
+use Rattle.explorer.specs.SightsSeen.Units.{AreBlocks, AreLines, block_numbers, line_numbers}
+use Rattle.explorer.specs.ValueTables.Left.{file_side, files_left}
+use Rattle.explorer.specs.ValueTables.Looking.{IsOf}
+use Rattle.explorer.specs.ValueTables.Rows.{read_refusal}
+use Rattle.explorer.specs.ValueTables.Sides.{side_at}
+use Rattle.explorer.proofs.ValueTables.FileSideLemmas.{files_rest}
 use Rattle.outcome_lists.proofs.SightLemmas.{blocks_of_part, file_lines_of_part, lines_of_part}
 
 -- numbers that begin with one

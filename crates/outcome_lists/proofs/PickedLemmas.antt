@@ -9,14 +9,14 @@ use Rattle.block_sights.specs.Sights.{Sight}
 use Rattle.block_sights.specs.Sights.Sight.{Whole, Scar, BadLine}
 use Rattle.reply_text.specs.declared.reply.Why.{Why}
 use Rattle.reply_text.specs.declared.reply.Why.TheVariants.{Missing, Range}
-use Rattle.machine_host.specs.Machine.{Machine}
-use Rattle.outcomes.specs.Pages.{PageReply}
-use Rattle.outcomes.specs.Pages.PageReply.{Poison, Refuses, Shows}
-use Rattle.outcomes.specs.Seen.{Seen, block_reads, blocks_may_show, file_reads, files_may_show, may_show, volume_may_show, volume_reads}
-use Rattle.outcomes.specs.Seen.Seen.{of_blocks, of_file, of_volume}
-use Rattle.asked_reads.specs.declared.read.Read.{Read}
-use Rattle.asked_reads.specs.declared.read.Read.TheVariants.{Volume, Blocks, File}
-use Rattle.value_tables.specs.Listed.{reply_of}
+use Rattle.explorer.specs.MachineModel.Machine.{Machine}
+use Rattle.explorer.specs.Outcomes.Pages.{PageReply}
+use Rattle.explorer.specs.Outcomes.Pages.PageReply.{Poison, Refuses, Shows}
+use Rattle.explorer.specs.Outcomes.Seen.{Seen, block_reads, blocks_may_show, file_reads, files_may_show, may_show, volume_may_show, volume_reads}
+use Rattle.explorer.specs.Outcomes.Seen.Seen.{of_blocks, of_file, of_volume}
+use Rattle.explorer.specs.AskedReads.declared.read.Read.{Read}
+use Rattle.explorer.specs.AskedReads.declared.read.Read.TheVariants.{Volume, Blocks, File}
+use Rattle.explorer.specs.ValueTables.Listed.{reply_of}
 use Rattle.outcome_lists.specs.Apart.{IsWordReply}
 use Rattle.outcome_lists.specs.ApartBlocks.{IsSight}
 use Rattle.outcome_lists.specs.ApartFiles.{NamesItsLine}

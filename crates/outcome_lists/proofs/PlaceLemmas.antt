@@ -4,22 +4,22 @@ use Rattle.std.specs.Option.{is_none}
 use Rattle.word_tables.specs.declared.geometry.Geometry.{Geometry}
 use Rattle.script_text.specs.declared.command.Command.{Command}
 use Rattle.script_text.specs.Action.{Action, action_of}
-use Rattle.machine_host.specs.Machine.{Machine}
-use Rattle.machine_host.specs.Commands.{fate, meaning, refusal}
-use Rattle.outcomes.specs.Stops.{led_to}
-use Rattle.asked_reads.specs.Program.{inputs_of_lines}
-use Rattle.cut_places.specs.declared.sight.Sight.{Sight}
-use Rattle.cut_places.specs.FileChanges.{left_by}
-use Rattle.cut_places.specs.FileCommands.{files_change}
-use Rattle.cut_places.specs.FileMixing.{way_left}
-use Rattle.cut_places.specs.FilesState.{FilesState}
-use Rattle.cut_places.specs.Following.{AreDone, Follows}
-use Rattle.cut_places.specs.SeesFiles.{SeesFiles}
-use Rattle.cut_places.proofs.LeftLemmas.{left_same}
-use Rattle.sights.specs.declared.way.Way.{Way}
-use Rattle.sights.specs.Ways.{blocks_way, lines_way}
-use Rattle.sights.specs.Units.{AreBlocks, AreLines, block_numbers, line_numbers}
-use Rattle.value_tables.specs.Looking.{IsOf}
+use Rattle.explorer.specs.MachineModel.Machine.{Machine}
+use Rattle.explorer.specs.MachineModel.Commands.{fate, meaning, refusal}
+use Rattle.explorer.specs.Outcomes.Stops.{led_to}
+use Rattle.explorer.specs.AskedReads.Program.{inputs_of_lines}
+use Rattle.explorer.specs.CutPlaces.declared.sight.Sight.{Sight}
+use Rattle.explorer.specs.CutPlaces.FileChanges.{left_by}
+use Rattle.explorer.specs.CutPlaces.FileCommands.{files_change}
+use Rattle.explorer.specs.CutPlaces.FileMixing.{way_left}
+use Rattle.explorer.specs.CutPlaces.FilesState.{FilesState}
+use Rattle.explorer.specs.CutPlaces.Following.{AreDone, Follows}
+use Rattle.explorer.specs.CutPlaces.SeesFiles.{SeesFiles}
+use Rattle.explorer.proofs.CutPlaces.LeftLemmas.{left_same}
+use Rattle.explorer.specs.SightsSeen.declared.way.Way.{Way}
+use Rattle.explorer.specs.SightsSeen.Ways.{blocks_way, lines_way}
+use Rattle.explorer.specs.SightsSeen.Units.{AreBlocks, AreLines, block_numbers, line_numbers}
+use Rattle.explorer.specs.ValueTables.Looking.{IsOf}
 use Rattle.outcome_lists.specs.declared.place.Place.{Place}
 use Rattle.outcome_lists.specs.Levels.{before_place, inside_places, places, places_from}
 use Rattle.outcome_lists.specs.Mixing.{ways_inside}

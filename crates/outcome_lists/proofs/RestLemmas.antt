@@ -2,13 +2,13 @@
 use Rattle.std.proofs.Common.{◌≡◌, ◌*◌, ◌&&◌, Bool, true, false, None, List, [], ◌∷◌, map, refl, sym, ap, subst, ◌∙◌}
 use Rattle.std.specs.List.{AllByRecursion, list_all}
 use Rattle.std.proofs.lemmas.List.Folds.{list_all-map}
-use Rattle.machine_host.specs.Machine.{Machine}
-use Rattle.outcomes.specs.Blocks.{all_numbers_read, block_fits, is_block_reply}
-use Rattle.outcomes.specs.Left.{blocks_may_pass, volume_may_pass}
-use Rattle.outcomes.specs.Pages.{all_lines_read, is_reply, line_fits}
-use Rattle.outcomes.specs.Seen.{Seen, block_reads, file_reads, may_show, volume_reads}
-use Rattle.outcomes.specs.Seen.Seen.{of_blocks, of_file, of_volume}
-use Rattle.value_tables.specs.Listed.{IsSound}
+use Rattle.explorer.specs.MachineModel.Machine.{Machine}
+use Rattle.explorer.specs.Outcomes.Blocks.{all_numbers_read, block_fits, is_block_reply}
+use Rattle.explorer.specs.Outcomes.Left.{blocks_may_pass, volume_may_pass}
+use Rattle.explorer.specs.Outcomes.Pages.{all_lines_read, is_reply, line_fits}
+use Rattle.explorer.specs.Outcomes.Seen.{Seen, block_reads, file_reads, may_show, volume_reads}
+use Rattle.explorer.specs.Outcomes.Seen.Seen.{of_blocks, of_file, of_volume}
+use Rattle.explorer.specs.ValueTables.Listed.{IsSound}
 use Rattle.outcome_lists.specs.Apart.{AreThere}
 use Rattle.outcome_lists.specs.ApartBlocks.{shows_block}
 use Rattle.outcome_lists.specs.ApartFiles.{shows_word}

@@ -2,9 +2,9 @@
 use Rattle.std.proofs.Common.{◌≡◌, inl, inr, ◌&&◌, ◌||◌, Bool, true, false, Option, Some, None, List, [], ◌∷◌, map, refl, sym, ap, if◌then◌else◌, ◌∙◌}
 use Rattle.std.specs.List.{AllByRecursion}
 use Rattle.std.proofs.lemmas.Bool.{true≢false}
-use Rattle.asked_reads.specs.declared.read.Read.{Read}
-use Rattle.sights.specs.declared.way.Way.{Way}
-use Rattle.witnesses.proofs.ListLemmas.{IsAmong}
+use Rattle.explorer.specs.AskedReads.declared.read.Read.{Read}
+use Rattle.explorer.specs.SightsSeen.declared.way.Way.{Way}
+use Rattle.explorer.proofs.Witnesses.ListLemmas.{IsAmong}
 use Rattle.outcome_walk.specs.declared.level.Rows.{Rows}
 use Rattle.outcome_walk.specs.declared.level.Link.TheVariants.{Opens, Joins}
 use Rattle.outcome_walk.specs.declared.sides.Sides.{Sides}

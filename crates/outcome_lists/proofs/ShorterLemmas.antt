@@ -14,23 +14,23 @@ use Rattle.nvm_model.specs.Storage.{Block, File, Mapping}
 use Rattle.nvm_model.specs.Touched.{persist_spans}
 use Rattle.word_tables.specs.declared.geometry.Geometry.{Geometry}
 use Rattle.script_text.specs.Action.{Action}
-use Rattle.machine_host.specs.Commands.{meaning}
-use Rattle.machine_host.specs.Machine.{Machine}
-use Rattle.machine_host.specs.Meaning.{BlocksLeft, FilesLeft, VolumeLeft}
-use Rattle.machine_host.specs.Meaning.BlocksLeft.{Same, Either, Mixed}
-use Rattle.machine_host.specs.Meaning.FilesLeft.{Unchanged, OldOrNew, StoredInPart, SyncedInPart}
-use Rattle.machine_host.specs.Meaning.VolumeLeft.{Kept, PartStored, PartSynced, AllOrNone, PageByPage}
-use Rattle.machine_host.specs.OnPages.{pages_named}
-use Rattle.outcomes.specs.Blocks.{BlockRead, all_numbers_read, block_fits, is_block_reply}
-use Rattle.outcomes.specs.Files.{FileRead, all_but, each_file, file_fits, files_fit, is_file_reply, reads_of}
-use Rattle.outcomes.specs.Left.{blocks_may_pass, blocks_pass, files_may_pass, files_pass, stored_file, stored_passes, synced_file, volume_may_pass, volume_passes}
-use Rattle.outcomes.specs.Pages.{PageRead, agrees, all_agree, all_allow_good, all_lines_read, allows_bad, allows_good, is_reply, line_fits, words_fit}
-use Rattle.outcomes.specs.Seen.{Seen, block_reads, blocks_may_show, file_reads, files_may_show, may_show, volume_may_show}
-use Rattle.outcomes.specs.Seen.Seen.{of_blocks, of_file, of_volume}
-use Rattle.outcomes.specs.Ways.{all_pass, each_passes, group_passes, groups_pass}
-use Rattle.cut_places.proofs.AllLemmas.{all_so}
-use Rattle.witnesses.proofs.ListLemmas.{any_more}
-use Rattle.witnesses.proofs.SeenLemmas.{all_lines_read-append, all_numbers_read-append}
+use Rattle.explorer.specs.MachineModel.Commands.{meaning}
+use Rattle.explorer.specs.MachineModel.Machine.{Machine}
+use Rattle.explorer.specs.MachineModel.Meaning.{BlocksLeft, FilesLeft, VolumeLeft}
+use Rattle.explorer.specs.MachineModel.Meaning.BlocksLeft.{Same, Either, Mixed}
+use Rattle.explorer.specs.MachineModel.Meaning.FilesLeft.{Unchanged, OldOrNew, StoredInPart, SyncedInPart}
+use Rattle.explorer.specs.MachineModel.Meaning.VolumeLeft.{Kept, PartStored, PartSynced, AllOrNone, PageByPage}
+use Rattle.explorer.specs.MachineModel.OnPages.{pages_named}
+use Rattle.explorer.specs.Outcomes.Blocks.{BlockRead, all_numbers_read, block_fits, is_block_reply}
+use Rattle.explorer.specs.Outcomes.Files.{FileRead, all_but, each_file, file_fits, files_fit, is_file_reply, reads_of}
+use Rattle.explorer.specs.Outcomes.Left.{blocks_may_pass, blocks_pass, files_may_pass, files_pass, stored_file, stored_passes, synced_file, volume_may_pass, volume_passes}
+use Rattle.explorer.specs.Outcomes.Pages.{PageRead, agrees, all_agree, all_allow_good, all_lines_read, allows_bad, allows_good, is_reply, line_fits, words_fit}
+use Rattle.explorer.specs.Outcomes.Seen.{Seen, block_reads, blocks_may_show, file_reads, files_may_show, may_show, volume_may_show}
+use Rattle.explorer.specs.Outcomes.Seen.Seen.{of_blocks, of_file, of_volume}
+use Rattle.explorer.specs.Outcomes.Ways.{all_pass, each_passes, group_passes, groups_pass}
+use Rattle.explorer.proofs.CutPlaces.AllLemmas.{all_so}
+use Rattle.explorer.proofs.Witnesses.ListLemmas.{any_more}
+use Rattle.explorer.proofs.Witnesses.SeenLemmas.{all_lines_read-append, all_numbers_read-append}
 use Rattle.outcome_lists.specs.Outcomes.{Asked, and_seen, look_of}
 use Rattle.outcome_lists.proofs.LookLemmas.{blocks_back, files_back, volume_back}
 

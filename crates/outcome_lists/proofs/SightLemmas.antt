@@ -4,20 +4,20 @@ use Rattle.std.specs.List.{list_all, range_with_len}
 use Rattle.word_tables.specs.declared.geometry.Geometry.{Geometry}
 use Rattle.nvm_model.specs.Cell.{Cell}
 use Rattle.block_sights.specs.Sights.{Sight as BlockSight}
-use Rattle.machine_host.specs.Machine.{Machine}
-use Rattle.cut_places.specs.declared.sight.Sight.{Sight}
-use Rattle.cut_places.specs.Following.{Follows}
-use Rattle.cut_places.specs.SeesFiles.{SeesFiles, is_held}
-use Rattle.cut_places.specs.FilesState.{FilesState}
-use Rattle.sights.specs.declared.block_seen.BlockSeen.{BlockSeen}
-use Rattle.sights.specs.declared.line_seen.LineSeen.{LineSeen}
-use Rattle.sights.specs.Units.{AreBlocks, AreLines, block_numbers, line_numbers}
+use Rattle.explorer.specs.MachineModel.Machine.{Machine}
+use Rattle.explorer.specs.CutPlaces.declared.sight.Sight.{Sight}
+use Rattle.explorer.specs.CutPlaces.Following.{Follows}
+use Rattle.explorer.specs.CutPlaces.SeesFiles.{SeesFiles, is_held}
+use Rattle.explorer.specs.CutPlaces.FilesState.{FilesState}
+use Rattle.explorer.specs.SightsSeen.declared.block_seen.BlockSeen.{BlockSeen}
+use Rattle.explorer.specs.SightsSeen.declared.line_seen.LineSeen.{LineSeen}
+use Rattle.explorer.specs.SightsSeen.Units.{AreBlocks, AreLines, block_numbers, line_numbers}
 use Rattle.outcome_lists.specs.Courses.{IsAt}
-use Rattle.asked_reads.specs.declared.read.Read.{Read}
-use Rattle.asked_reads.specs.declared.read.Read.TheVariants.{Volume, Blocks}
-use Rattle.value_tables.specs.Looking.{IsOf, blocks_looked_at, blocks_touched, file_lines_looked_at, file_lines_touched, lines_looked_at, lines_touched, none_refused}
-use Rattle.value_tables.specs.Rows.{read_refusal}
-use Rattle.value_tables.specs.Sides.{HasRun}
+use Rattle.explorer.specs.AskedReads.declared.read.Read.{Read}
+use Rattle.explorer.specs.AskedReads.declared.read.Read.TheVariants.{Volume, Blocks}
+use Rattle.explorer.specs.ValueTables.Looking.{IsOf, blocks_looked_at, blocks_touched, file_lines_looked_at, file_lines_touched, lines_looked_at, lines_touched, none_refused}
+use Rattle.explorer.specs.ValueTables.Rows.{read_refusal}
+use Rattle.explorer.specs.ValueTables.Sides.{HasRun}
 use Rattle.outcome_lists.specs.Parts.{IsPart}
 use Rattle.outcome_lists.proofs.MappedLemmas.{map_drop, map_take}
 

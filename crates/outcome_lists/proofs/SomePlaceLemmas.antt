@@ -2,7 +2,7 @@
 use Rattle.std.proofs.Common.{◌<◌, ℕ, suc, List, [], ◌∷◌, length, arith}
 use Rattle.script_text.specs.Script.{Input}
 use Rattle.script_text.specs.Script.Input.{Skipped, Malformed, Overlong, Asked}
-use Rattle.machine_host.specs.Machine.{Machine}
+use Rattle.explorer.specs.MachineModel.Machine.{Machine}
 use Rattle.outcome_lists.specs.Levels.{places, places_from}
 
 -- the last one is behind all its lines

@@ -2,12 +2,12 @@
 use Rattle.std.proofs.Common.{◌≡◌, ◌&&◌, ◌||◌, not, Bool, true, false, List, [], ◌∷◌, map, refl, sym, ap, ap₂, ◌∙◌}
 use Rattle.std.specs.List.{list_all}
 use Rattle.std.proofs.lemmas.List.Folds.{list_all-map}
-use Rattle.outcomes.specs.Blocks.{BlockRead}
-use Rattle.outcomes.specs.Files.{FileRead}
-use Rattle.outcomes.specs.Pages.{PageRead}
-use Rattle.outcomes.specs.Seen.{Seen, block_reads, file_reads, volume_reads}
-use Rattle.outcomes.specs.Seen.Seen.{of_blocks, of_file, of_volume}
-use Rattle.witnesses.proofs.ListLemmas.{IsAmong}
+use Rattle.explorer.specs.Outcomes.Blocks.{BlockRead}
+use Rattle.explorer.specs.Outcomes.Files.{FileRead}
+use Rattle.explorer.specs.Outcomes.Pages.{PageRead}
+use Rattle.explorer.specs.Outcomes.Seen.{Seen, block_reads, file_reads, volume_reads}
+use Rattle.explorer.specs.Outcomes.Seen.Seen.{of_blocks, of_file, of_volume}
+use Rattle.explorer.proofs.Witnesses.ListLemmas.{IsAmong}
 use Rattle.outcome_lists.specs.Apart.{grouped}
 use Rattle.outcome_lists.specs.Mixing.{same_kind}
 use Rattle.outcome_lists.proofs.ApartLemmas.{all_both}

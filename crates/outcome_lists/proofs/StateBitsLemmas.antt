@@ -14,23 +14,23 @@ use Rattle.script_text.specs.Action.{Action}
 use Rattle.script_text.specs.Action.Action.{FAtomic, FMulti, FWrite, Store, VStore}
 use Rattle.script_text.specs.Script.{Input}
 use Rattle.script_text.specs.Script.Input.{Skipped, Malformed, Overlong, Asked}
-use Rattle.machine_host.specs.Machine.{Fate, Machine}
-use Rattle.machine_host.specs.Machine.Fate.{Gives, Works, Orders, Cuts, Restarts, Recovers}
-use Rattle.machine_host.specs.Commands.{fate, meaning, refusal, unless_refused}
-use Rattle.durable.specs.Durable.{BringBytes, BringsBytes}
-use Rattle.durable.proofs.StepKinds.{files_made, volume_after}
-use Rattle.durable.proofs.SuitLemmas.{Suits, suits}
-use Rattle.outcomes.specs.Stops.{led_to}
-use Rattle.asked_reads.specs.declared.read.Read.{Read}
-use Rattle.asked_reads.specs.declared.read.Read.TheVariants.{Volume, Blocks, File as OfFile}
-use Rattle.sights.specs.Seeing.{or_zeros, seen}
-use Rattle.value_tables.specs.Left.{FileSide, file_side, side_of}
-use Rattle.value_tables.specs.Left.FileSide.{NoFile, PastEnd, OfLine}
-use Rattle.value_tables.specs.Values.{cells_of, history_of, values_with, with_all, with_one}
+use Rattle.explorer.specs.MachineModel.Machine.{Fate, Machine}
+use Rattle.explorer.specs.MachineModel.Machine.Fate.{Gives, Works, Orders, Cuts, Restarts, Recovers}
+use Rattle.explorer.specs.MachineModel.Commands.{fate, meaning, refusal, unless_refused}
+use Rattle.explorer.specs.Durable.Durable.{BringBytes, BringsBytes}
+use Rattle.explorer.proofs.Durable.StepKinds.{files_made, volume_after}
+use Rattle.explorer.proofs.Durable.SuitLemmas.{Suits, suits}
+use Rattle.explorer.specs.Outcomes.Stops.{led_to}
+use Rattle.explorer.specs.AskedReads.declared.read.Read.{Read}
+use Rattle.explorer.specs.AskedReads.declared.read.Read.TheVariants.{Volume, Blocks, File as OfFile}
+use Rattle.explorer.specs.SightsSeen.Seeing.{or_zeros, seen}
+use Rattle.explorer.specs.ValueTables.Left.{FileSide, file_side, side_of}
+use Rattle.explorer.specs.ValueTables.Left.FileSide.{NoFile, PastEnd, OfLine}
+use Rattle.explorer.specs.ValueTables.Values.{cells_of, history_of, values_with, with_all, with_one}
 use Rattle.explorer.specs.Starting.{AreDurable, HaveDurable}
 use Rattle.outcome_lists.specs.Choices.{states, values_through}
-use Rattle.outcomes.proofs.FileHistoryLemmas.{FilesHold, files_after_hold, item_of}
-use Rattle.outcomes.proofs.HistoryLemmas.{AllHold, Brings, Holds, volume_holds, zero_holds}
+use Rattle.explorer.proofs.Outcomes.FileHistoryLemmas.{FilesHold, files_after_hold, item_of}
+use Rattle.explorer.proofs.Outcomes.HistoryLemmas.{AllHold, Brings, Holds, volume_holds, zero_holds}
 use Rattle.outcome_lists.proofs.BitsLemmas.{Are64, AreSmall, bits_kept, word_of_bytes}
 use Rattle.outcome_lists.proofs.PairLemmas.{all_joined}
 

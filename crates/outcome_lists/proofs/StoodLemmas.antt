@@ -2,8 +2,8 @@
 use Rattle.std.proofs.Common.{◌≡◌, ◌||◌, Bool, true, false, List, [], ◌∷◌, ◌++◌, Option, Some, None, is_some, map, refl, sym, ap, ◌∙◌}
 use Rattle.std.specs.Prelude.{Contains, if◌then◌else◌}
 use Rattle.std.specs.List.{list_any}
-use Rattle.machine_host.specs.Machine.{Machine}
-use Rattle.asked_reads.specs.declared.read.Read.{Read}
+use Rattle.explorer.specs.MachineModel.Machine.{Machine}
+use Rattle.explorer.specs.AskedReads.declared.read.Read.{Read}
 use Rattle.outcome_walk.specs.declared.level.Rows.{Rows}
 use Rattle.outcome_walk.specs.declared.sides.Sides.{Sides}
 use Rattle.outcome_walk.specs.Walking.{all_moved, both, moved, stands}

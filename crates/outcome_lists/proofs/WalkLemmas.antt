@@ -4,10 +4,10 @@ use Rattle.std.specs.Prelude.{Contains, if◌then◌else◌}
 use Rattle.std.specs.List.{AllZip, flat_map, list_any}
 use Rattle.std.proofs.lemmas.List.{length-map}
 use Rattle.std.proofs.lemmas.List.Elements.{Contains-append_right}
-use Rattle.machine_host.specs.Machine.{Machine}
-use Rattle.outcomes.specs.Seen.{Seen}
-use Rattle.asked_reads.specs.declared.read.Read.{Read}
-use Rattle.cut_places.specs.declared.place.CutPlace.{CutPlace}
+use Rattle.explorer.specs.MachineModel.Machine.{Machine}
+use Rattle.explorer.specs.Outcomes.Seen.{Seen}
+use Rattle.explorer.specs.AskedReads.declared.read.Read.{Read}
+use Rattle.explorer.specs.CutPlaces.declared.place.CutPlace.{CutPlace}
 use Rattle.outcome_walk.specs.declared.level.Link.{Link}
 use Rattle.outcome_walk.specs.declared.sides.Sides.{Sides}
 use Rattle.outcome_walk.specs.Walking.{Trail, all_moved, both, stands, walked, with_way}

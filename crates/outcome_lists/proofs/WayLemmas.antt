@@ -15,25 +15,25 @@ use Rattle.script_text.specs.Action.{Action}
 use Rattle.script_text.specs.Action.Action.{PoisonBlock, PoisonFile, PoisonVolume, WeakenFile, WeakenVolume}
 use Rattle.script_text.specs.Script.{Input}
 use Rattle.script_text.specs.Script.Input.{Skipped, Malformed, Overlong, Asked}
-use Rattle.machine_host.specs.Machine.{Fate, Machine}
-use Rattle.machine_host.specs.Machine.Fate.{Gives, Works, Orders, Cuts, Restarts, Recovers}
-use Rattle.machine_host.specs.Commands.{fate, meaning, refusal, unless_refused, while_interrupted}
-use Rattle.machine_host.specs.Meaning.{BlocksLeft, FilesLeft, VolumeLeft}
-use Rattle.machine_host.specs.Meaning.BlocksLeft.{Same, Either, Mixed}
-use Rattle.machine_host.specs.Meaning.FilesLeft.{Unchanged, OldOrNew, StoredInPart, SyncedInPart}
-use Rattle.machine_host.specs.Meaning.VolumeLeft.{Kept, PartStored, PartSynced, AllOrNone, PageByPage}
-use Rattle.durable.proofs.StepKinds.{Alters, blocks_after, files_made, volume_after}
-use Rattle.durable.proofs.SuitLemmas.{Suits, suits}
-use Rattle.outcomes.specs.Finds.{IsReady}
-use Rattle.outcomes.specs.Stops.{IsProgram, inside, led_to}
-use Rattle.sights.specs.Seeing.{seen}
-use Rattle.sights.proofs.SizeLemmas.{geometry_stays}
-use Rattle.cut_places.specs.declared.place.CutPlace.{CutPlace}
-use Rattle.cut_places.specs.declared.place.CutPlace.TheVariants.{Before, Inside}
-use Rattle.cut_places.specs.Places.{Stop, cut_places}
-use Rattle.value_tables.specs.Left.{FileSide, blocks_left, file_side, files_left, lines_left, of_blocks, of_files, of_lines}
-use Rattle.value_tables.specs.Listed.{IsSound}
-use Rattle.value_tables.proofs.SoundLemmas.{next}
+use Rattle.explorer.specs.MachineModel.Machine.{Fate, Machine}
+use Rattle.explorer.specs.MachineModel.Machine.Fate.{Gives, Works, Orders, Cuts, Restarts, Recovers}
+use Rattle.explorer.specs.MachineModel.Commands.{fate, meaning, refusal, unless_refused, while_interrupted}
+use Rattle.explorer.specs.MachineModel.Meaning.{BlocksLeft, FilesLeft, VolumeLeft}
+use Rattle.explorer.specs.MachineModel.Meaning.BlocksLeft.{Same, Either, Mixed}
+use Rattle.explorer.specs.MachineModel.Meaning.FilesLeft.{Unchanged, OldOrNew, StoredInPart, SyncedInPart}
+use Rattle.explorer.specs.MachineModel.Meaning.VolumeLeft.{Kept, PartStored, PartSynced, AllOrNone, PageByPage}
+use Rattle.explorer.proofs.Durable.StepKinds.{Alters, blocks_after, files_made, volume_after}
+use Rattle.explorer.proofs.Durable.SuitLemmas.{Suits, suits}
+use Rattle.explorer.specs.Outcomes.Finds.{IsReady}
+use Rattle.explorer.specs.Outcomes.Stops.{IsProgram, inside, led_to}
+use Rattle.explorer.specs.SightsSeen.Seeing.{seen}
+use Rattle.explorer.proofs.SightsSeen.SizeLemmas.{geometry_stays}
+use Rattle.explorer.specs.CutPlaces.declared.place.CutPlace.{CutPlace}
+use Rattle.explorer.specs.CutPlaces.declared.place.CutPlace.TheVariants.{Before, Inside}
+use Rattle.explorer.specs.CutPlaces.Places.{Stop, cut_places}
+use Rattle.explorer.specs.ValueTables.Left.{FileSide, blocks_left, file_side, files_left, lines_left, of_blocks, of_files, of_lines}
+use Rattle.explorer.specs.ValueTables.Listed.{IsSound}
+use Rattle.explorer.proofs.ValueTables.SoundLemmas.{next}
 use Rattle.outcome_lists.specs.Choices.{states}
 
 -- one, or one of two

@@ -8,12 +8,12 @@ use Rattle.std.proofs.lemmas.List.Folds.{list_all-append}
 use Rattle.nvm_model.specs.Cell.{Cell, touches}
 use Rattle.nvm_model.specs.Cell.Cell.{Bad, Kept}
 use Rattle.nvm_model.specs.Numbered.{is_among}
-use Rattle.outcomes.specs.Pages.{PageRead, PageReply, agrees, all_agree, all_allow_good, all_lines_read, allows_bad, allows_good, line_fits, lines_read, words_fit}
-use Rattle.outcomes.specs.Pages.PageReply.{Shows, Poison, Refuses}
-use Rattle.cut_places.proofs.AllLemmas.{same_test}
-use Rattle.value_tables.specs.Listed.{HasWords}
-use Rattle.value_tables.proofs.HistoryLemmas.{word_has}
-use Rattle.witnesses.proofs.ListLemmas.{IsAmong, all_from, all_of, range_all, range_each}
+use Rattle.explorer.specs.Outcomes.Pages.{PageRead, PageReply, agrees, all_agree, all_allow_good, all_lines_read, allows_bad, allows_good, line_fits, lines_read, words_fit}
+use Rattle.explorer.specs.Outcomes.Pages.PageReply.{Shows, Poison, Refuses}
+use Rattle.explorer.proofs.CutPlaces.AllLemmas.{same_test}
+use Rattle.explorer.specs.ValueTables.Listed.{HasWords}
+use Rattle.explorer.proofs.ValueTables.HistoryLemmas.{word_has}
+use Rattle.explorer.proofs.Witnesses.ListLemmas.{IsAmong, all_from, all_of, range_all, range_each}
 use Rattle.outcome_lists.specs.ApartFiles.{IsOfOneWord, NamesItsLine}
 use Rattle.outcome_lists.proofs.ApartBlocksLemmas.{all_same, and_true}
 use Rattle.outcome_lists.proofs.ApartLemmas.{all_both, any_same, some_value}

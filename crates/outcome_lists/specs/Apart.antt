@@ -6,15 +6,15 @@ use Rattle.word_tables.specs.declared.geometry.Geometry.{Geometry}
 use Rattle.nvm_model.specs.Cell.{Cell}
 use Rattle.nvm_model.specs.Page.{Page, cell_of}
 use Rattle.script_text.specs.Action.{Action}
-use Rattle.machine_host.specs.Commands.{meaning}
-use Rattle.machine_host.specs.Meaning.{VolumeLeft}
-use Rattle.machine_host.specs.Meaning.VolumeLeft.{Kept, PartStored, PartSynced, AllOrNone, PageByPage}
-use Rattle.durable.specs.Durable.{HaveLines}
-use Rattle.outcomes.specs.Left.{volume_may_pass}
-use Rattle.outcomes.specs.Pages.{PageRead, PageReply, all_lines_read, line_fits}
-use Rattle.outcomes.specs.Pages.PageReply.{Shows, Poison, Refuses}
-use Rattle.sights.specs.Seeing.{seen}
-use Rattle.value_tables.specs.Listed.{HasWords}
+use Rattle.explorer.specs.MachineModel.Commands.{meaning}
+use Rattle.explorer.specs.MachineModel.Meaning.{VolumeLeft}
+use Rattle.explorer.specs.MachineModel.Meaning.VolumeLeft.{Kept, PartStored, PartSynced, AllOrNone, PageByPage}
+use Rattle.explorer.specs.Durable.Durable.{HaveLines}
+use Rattle.explorer.specs.Outcomes.Left.{volume_may_pass}
+use Rattle.explorer.specs.Outcomes.Pages.{PageRead, PageReply, all_lines_read, line_fits}
+use Rattle.explorer.specs.Outcomes.Pages.PageReply.{Shows, Poison, Refuses}
+use Rattle.explorer.specs.SightsSeen.Seeing.{seen}
+use Rattle.explorer.specs.ValueTables.Listed.{HasWords}
 
 -- a test of groups: of all that go together with one of them all are old, or all are new
 abbrev pub grouped : {A : Type 0} → (A → A → Bool) → (A → Bool) → (A → Bool) → List A → Bool

@@ -3,12 +3,12 @@ use Rattle.std.specs.Prelude.{◌≡◌, ◌==◌, ◌||◌, Bool, true, not, Li
 use Rattle.std.specs.List.{AllByRecursion, list_all}
 use Rattle.nvm_model.specs.Storage.{Block}
 use Rattle.script_text.specs.Action.{Action}
-use Rattle.machine_host.specs.Commands.{meaning}
-use Rattle.machine_host.specs.Meaning.{BlocksLeft}
-use Rattle.machine_host.specs.Meaning.BlocksLeft.{Same, Either, Mixed}
-use Rattle.outcomes.specs.Blocks.{BlockRead, BlockReply, all_numbers_read, block_fits}
-use Rattle.outcomes.specs.Blocks.BlockReply.{Shows, Scar, BadLine, Refuses}
-use Rattle.outcomes.specs.Left.{blocks_may_pass}
+use Rattle.explorer.specs.MachineModel.Commands.{meaning}
+use Rattle.explorer.specs.MachineModel.Meaning.{BlocksLeft}
+use Rattle.explorer.specs.MachineModel.Meaning.BlocksLeft.{Same, Either, Mixed}
+use Rattle.explorer.specs.Outcomes.Blocks.{BlockRead, BlockReply, all_numbers_read, block_fits}
+use Rattle.explorer.specs.Outcomes.Blocks.BlockReply.{Shows, Scar, BadLine, Refuses}
+use Rattle.explorer.specs.Outcomes.Left.{blocks_may_pass}
 use Rattle.outcome_lists.specs.Apart.{grouped}
 
 -- the reply tells what is seen of a block

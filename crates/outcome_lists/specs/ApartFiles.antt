@@ -4,12 +4,12 @@ use Rattle.std.specs.List.{list_all}
 use Rattle.std.specs.Str.{bytes_eq}
 use Rattle.nvm_model.specs.Storage.{File, Mapping}
 use Rattle.script_text.specs.Action.{Action}
-use Rattle.machine_host.specs.Commands.{meaning}
-use Rattle.machine_host.specs.Meaning.{FilesLeft}
-use Rattle.machine_host.specs.Meaning.FilesLeft.{Unchanged, OldOrNew, StoredInPart, SyncedInPart}
-use Rattle.outcomes.specs.Files.{FileRead, each_file, files_fit}
-use Rattle.outcomes.specs.Pages.{PageRead, PageReply}
-use Rattle.outcomes.specs.Pages.PageReply.{Shows, Poison, Refuses}
+use Rattle.explorer.specs.MachineModel.Commands.{meaning}
+use Rattle.explorer.specs.MachineModel.Meaning.{FilesLeft}
+use Rattle.explorer.specs.MachineModel.Meaning.FilesLeft.{Unchanged, OldOrNew, StoredInPart, SyncedInPart}
+use Rattle.explorer.specs.Outcomes.Files.{FileRead, each_file, files_fit}
+use Rattle.explorer.specs.Outcomes.Pages.{PageRead, PageReply}
+use Rattle.explorer.specs.Outcomes.Pages.PageReply.{Shows, Poison, Refuses}
 use Rattle.outcome_lists.specs.Apart.{grouped}
 
 -- the line that a reply names as bad, if it names one, is that of the word

@@ -1,10 +1,10 @@
 -- Choices as they are held.
 use Rattle.std.specs.Prelude.{List, map}
-use Rattle.outcomes.specs.Seen.{Seen}
-use Rattle.outcomes.specs.Seen.Seen.{of_blocks, of_file, of_volume}
-use Rattle.asked_reads.specs.declared.question.Question.{Question}
-use Rattle.asked_reads.specs.Asking.{blocks_of, files_asked, volume_asked}
-use Rattle.asked_reads.specs.Reads.{block_read, file_read, page_read}
+use Rattle.explorer.specs.Outcomes.Seen.{Seen}
+use Rattle.explorer.specs.Outcomes.Seen.Seen.{of_blocks, of_file, of_volume}
+use Rattle.explorer.specs.AskedReads.declared.question.Question.{Question}
+use Rattle.explorer.specs.AskedReads.Asking.{blocks_of, files_asked, volume_asked}
+use Rattle.explorer.specs.AskedReads.Reads.{block_read, file_read, page_read}
 use Rattle.outcome_lists.specs.Choices.{Choice}
 use Rattle.outcome_lists.specs.Outcomes.{Asked}
 use Rattle.outcome_lists.specs.declared.choice.Asks.{Asks}

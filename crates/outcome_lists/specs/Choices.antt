@@ -4,23 +4,23 @@ use Rattle.std.specs.Int.{w64, to_le_bytes}
 use Rattle.nvm_base.specs.Data.{data_text}
 use Rattle.nvm_model.specs.Blocks.{nth}
 use Rattle.block_sights.specs.Sights.{Sight, sight}
-use Rattle.sights.specs.BlockTelling.{same_sight, sight_text}
-use Rattle.sights.specs.Seeing.{seen}
+use Rattle.explorer.specs.SightsSeen.BlockTelling.{same_sight, sight_text}
+use Rattle.explorer.specs.SightsSeen.Seeing.{seen}
 use Rattle.reply_text.specs.declared.reply.Why.TheVariants.{Missing, Range}
 use Rattle.script_text.specs.Script.{Input}
 use Rattle.script_text.specs.Script.Input.{Skipped, Malformed, Overlong, Asked}
-use Rattle.machine_host.specs.Machine.{Machine}
-use Rattle.machine_host.specs.Commands.{fate}
-use Rattle.outcomes.specs.Pages.{PageReply}
-use Rattle.outcomes.specs.Pages.PageReply.{Poison, Refuses, Shows}
-use Rattle.outcomes.specs.Seen.{Seen}
-use Rattle.outcomes.specs.Seen.Seen.{of_blocks, of_file, of_volume}
-use Rattle.outcomes.specs.Stops.{led_to}
-use Rattle.asked_reads.specs.declared.read.Read.{Read}
-use Rattle.asked_reads.specs.declared.read.Read.TheVariants.{Volume, Blocks, File}
-use Rattle.value_tables.specs.Left.{file_side}
-use Rattle.value_tables.specs.Listed.{reply_of}
-use Rattle.value_tables.specs.Values.{cells_of, values_with, with_all}
+use Rattle.explorer.specs.MachineModel.Machine.{Machine}
+use Rattle.explorer.specs.MachineModel.Commands.{fate}
+use Rattle.explorer.specs.Outcomes.Pages.{PageReply}
+use Rattle.explorer.specs.Outcomes.Pages.PageReply.{Poison, Refuses, Shows}
+use Rattle.explorer.specs.Outcomes.Seen.{Seen}
+use Rattle.explorer.specs.Outcomes.Seen.Seen.{of_blocks, of_file, of_volume}
+use Rattle.explorer.specs.Outcomes.Stops.{led_to}
+use Rattle.explorer.specs.AskedReads.declared.read.Read.{Read}
+use Rattle.explorer.specs.AskedReads.declared.read.Read.TheVariants.{Volume, Blocks, File}
+use Rattle.explorer.specs.ValueTables.Left.{file_side}
+use Rattle.explorer.specs.ValueTables.Listed.{reply_of}
+use Rattle.explorer.specs.ValueTables.Values.{cells_of, values_with, with_all}
 
 -- the states of a program: before each of its commands, and after the last one
 abbrev pub states : Machine → List Input → List Machine

@@ -3,18 +3,18 @@ use Rattle.std.specs.Prelude.{◌≡◌, ℕ, All, true, List, length}
 use Rattle.std.specs.List.{AllByRecursion, list_all}
 use Rattle.word_tables.specs.Bounds.{IsValid}
 use Rattle.word_tables.specs.declared.geometry.Geometry.{Geometry}
-use Rattle.outcomes.specs.Blocks.{all_numbers_read}
-use Rattle.outcomes.specs.Pages.{all_lines_read}
-use Rattle.outcomes.specs.Stops.{IsProgram}
-use Rattle.machine_host.specs.Machine.{Machine}
-use Rattle.asked_reads.specs.declared.read.Read.{Read}
-use Rattle.asked_reads.specs.Program.{IsBounded, inputs_of_lines}
-use Rattle.cut_places.specs.declared.sight.Sight.{Sight}
-use Rattle.cut_places.specs.Following.{AreDone, Follows}
-use Rattle.cut_places.specs.SeesFiles.{are_held, is_held}
-use Rattle.sights.specs.Units.{block_numbers, line_numbers}
-use Rattle.value_tables.specs.Looking.{blocks_looked_at, blocks_touched, file_lines_touched, lines_looked_at, lines_touched}
-use Rattle.value_tables.specs.Sides.{HasRun}
+use Rattle.explorer.specs.Outcomes.Blocks.{all_numbers_read}
+use Rattle.explorer.specs.Outcomes.Pages.{all_lines_read}
+use Rattle.explorer.specs.Outcomes.Stops.{IsProgram}
+use Rattle.explorer.specs.MachineModel.Machine.{Machine}
+use Rattle.explorer.specs.AskedReads.declared.read.Read.{Read}
+use Rattle.explorer.specs.AskedReads.Program.{IsBounded, inputs_of_lines}
+use Rattle.explorer.specs.CutPlaces.declared.sight.Sight.{Sight}
+use Rattle.explorer.specs.CutPlaces.Following.{AreDone, Follows}
+use Rattle.explorer.specs.CutPlaces.SeesFiles.{are_held, is_held}
+use Rattle.explorer.specs.SightsSeen.Units.{block_numbers, line_numbers}
+use Rattle.explorer.specs.ValueTables.Looking.{blocks_looked_at, blocks_touched, file_lines_touched, lines_looked_at, lines_touched}
+use Rattle.explorer.specs.ValueTables.Sides.{HasRun}
 use Rattle.outcome_lists.specs.Choices.{Choice}
 use Rattle.outcome_lists.specs.Outcomes.{Asked, and_seen}
 use Rattle.outcome_lists.specs.declared.course.Course.{Course}

@@ -2,12 +2,12 @@
 use Rattle.std.specs.Prelude.{◌∷◌, ◌++◌, ℕ, suc, Bool, List, [], map, Option, Some, is_none, if◌then◌else◌}
 use Rattle.script_text.specs.Script.{Input}
 use Rattle.script_text.specs.Script.Input.{Skipped, Malformed, Overlong, Asked}
-use Rattle.machine_host.specs.Machine.{Machine}
-use Rattle.machine_host.specs.Commands.{fate, refusal}
-use Rattle.outcomes.specs.Seen.{may_show}
-use Rattle.outcomes.specs.Stops.{led_to}
-use Rattle.asked_reads.specs.declared.read.Read.{Read}
-use Rattle.cut_places.specs.declared.place.CutPlace.TheVariants.{Before, Inside}
+use Rattle.explorer.specs.MachineModel.Machine.{Machine}
+use Rattle.explorer.specs.MachineModel.Commands.{fate, refusal}
+use Rattle.explorer.specs.Outcomes.Seen.{may_show}
+use Rattle.explorer.specs.Outcomes.Stops.{led_to}
+use Rattle.explorer.specs.AskedReads.declared.read.Read.{Read}
+use Rattle.explorer.specs.CutPlaces.declared.place.CutPlace.TheVariants.{Before, Inside}
 use Rattle.outcome_walk.specs.Walking.{Part, Way}
 use Rattle.outcome_lists.specs.declared.place.Place.{Place}
 use Rattle.outcome_lists.specs.declared.ways.Ways.{Ways}

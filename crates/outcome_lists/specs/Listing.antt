@@ -2,10 +2,10 @@
 use Rattle.std.specs.Prelude.{◌≡◌, ℕ, Contains, List, [], ◌∷◌, Some, flat_map}
 use Rattle.std.specs.List.{AllByRecursion, AllZip}
 use Rattle.script_text.specs.Script.{Input}
-use Rattle.machine_host.specs.Machine.{Machine}
-use Rattle.asked_reads.specs.declared.read.Read.{Read}
-use Rattle.cut_places.specs.declared.place.CutPlace.{CutPlace}
-use Rattle.cut_places.specs.Places.{cut_places}
+use Rattle.explorer.specs.MachineModel.Machine.{Machine}
+use Rattle.explorer.specs.AskedReads.declared.read.Read.{Read}
+use Rattle.explorer.specs.CutPlaces.declared.place.CutPlace.{CutPlace}
+use Rattle.explorer.specs.CutPlaces.Places.{cut_places}
 use Rattle.outcome_lists.specs.Choices.{Choice, choices, states}
 use Rattle.outcome_lists.specs.Outcomes.{Asked, Outcome, and_seen, look_of, nothing, place_of}
 

@@ -1,11 +1,11 @@
 -- A list of outcomes, as it is printed.
 use Rattle.std.specs.Prelude.{ℕ, List, [], ◌∷◌, ◌++◌, codes, decimal, flat_map, length, nat_lt, if◌then◌else◌}
 use Rattle.script_text.specs.Script.{Input}
-use Rattle.machine_host.specs.Machine.{Machine}
-use Rattle.asked_reads.specs.declared.read.Read.{Read}
+use Rattle.explorer.specs.MachineModel.Machine.{Machine}
+use Rattle.explorer.specs.AskedReads.declared.read.Read.{Read}
 use Rattle.outcome_walk.specs.Numbers.{numeral}
-use Rattle.cut_places.specs.declared.place.CutPlace.{CutPlace}
-use Rattle.cut_places.specs.declared.place.CutPlace.TheVariants.{Before, Inside}
+use Rattle.explorer.specs.CutPlaces.declared.place.CutPlace.{CutPlace}
+use Rattle.explorer.specs.CutPlaces.declared.place.CutPlace.TheVariants.{Before, Inside}
 use Rattle.outcome_lists.specs.Outcomes.{Outcome, outcomes}
 
 -- where a cut falls

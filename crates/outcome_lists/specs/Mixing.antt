@@ -3,13 +3,13 @@ use Rattle.std.specs.Prelude.{◌/◌, ◌==◌, ◌&&◌, ℕ, Bool, true, fals
 use Rattle.std.specs.Str.{bytes_eq}
 use Rattle.nvm_model.specs.Storage.{Mapping}
 use Rattle.script_text.specs.Action.{Action}
-use Rattle.machine_host.specs.Commands.{meaning}
-use Rattle.asked_reads.specs.declared.read.Read.{Read}
-use Rattle.asked_reads.specs.declared.read.Read.TheVariants.{Volume, Blocks, File}
-use Rattle.sights.specs.Ways.{blocks_way, lines_way}
-use Rattle.sights.specs.declared.way.Way.{Way}
-use Rattle.sights.specs.declared.way.Way.TheVariants.{Each, Together, ByPage}
-use Rattle.cut_places.specs.FileMixing.{way_left}
+use Rattle.explorer.specs.MachineModel.Commands.{meaning}
+use Rattle.explorer.specs.AskedReads.declared.read.Read.{Read}
+use Rattle.explorer.specs.AskedReads.declared.read.Read.TheVariants.{Volume, Blocks, File}
+use Rattle.explorer.specs.SightsSeen.Ways.{blocks_way, lines_way}
+use Rattle.explorer.specs.SightsSeen.declared.way.Way.{Way}
+use Rattle.explorer.specs.SightsSeen.declared.way.Way.TheVariants.{Each, Together, ByPage}
+use Rattle.explorer.specs.CutPlaces.FileMixing.{way_left}
 use Rattle.outcome_walk.specs.declared.level.Link.{Link}
 use Rattle.outcome_walk.specs.declared.level.Link.TheVariants.{Alone, Opens, Joins}
 use Rattle.outcome_lists.specs.declared.ways.Ways.{Ways}

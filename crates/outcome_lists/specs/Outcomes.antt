@@ -1,15 +1,15 @@
 -- The outcomes of a look: what its parts may be found to be together.
 use Rattle.std.specs.Prelude.{◌++◌, ℕ, List, [], ◌∷◌, map, Option, Some, None, option_map}
 use Rattle.script_text.specs.Script.{Input}
-use Rattle.machine_host.specs.Machine.{Machine}
-use Rattle.outcomes.specs.Blocks.{BlockRead}
-use Rattle.outcomes.specs.Files.{FileRead}
-use Rattle.outcomes.specs.Pages.{PageRead}
-use Rattle.outcomes.specs.Seen.{Seen, may_show}
-use Rattle.outcomes.specs.Seen.Seen.{of_blocks, of_file, of_volume}
-use Rattle.asked_reads.specs.declared.read.Read.{Read}
-use Rattle.cut_places.specs.declared.place.CutPlace.{CutPlace}
-use Rattle.cut_places.specs.Places.{Stop, cut_places, first_stop}
+use Rattle.explorer.specs.MachineModel.Machine.{Machine}
+use Rattle.explorer.specs.Outcomes.Blocks.{BlockRead}
+use Rattle.explorer.specs.Outcomes.Files.{FileRead}
+use Rattle.explorer.specs.Outcomes.Pages.{PageRead}
+use Rattle.explorer.specs.Outcomes.Seen.{Seen, may_show}
+use Rattle.explorer.specs.Outcomes.Seen.Seen.{of_blocks, of_file, of_volume}
+use Rattle.explorer.specs.AskedReads.declared.read.Read.{Read}
+use Rattle.explorer.specs.CutPlaces.declared.place.CutPlace.{CutPlace}
+use Rattle.explorer.specs.CutPlaces.Places.{Stop, cut_places, first_stop}
 use Rattle.outcome_lists.specs.Choices.{Choice, choices, states}
 use Rattle.outcome_lists.specs.Parts.{parts_of}
 

@@ -7,9 +7,9 @@ use Rattle.nvm_base.specs.declared.units.Span.{Span}
 use Rattle.nvm_model.specs.Listing.{is_before}
 use Rattle.word_tables.specs.declared.geometry.Geometry.{Geometry}
 use Rattle.reply_text.specs.declared.reply.Why.{Why}
-use Rattle.asked_reads.specs.declared.read.Read.{Read}
-use Rattle.asked_reads.specs.declared.read.Read.TheVariants.{Volume, Blocks, File}
-use Rattle.value_tables.specs.Rows.{read_refusal}
+use Rattle.explorer.specs.AskedReads.declared.read.Read.{Read}
+use Rattle.explorer.specs.AskedReads.declared.read.Read.TheVariants.{Volume, Blocks, File}
+use Rattle.explorer.specs.ValueTables.Rows.{read_refusal}
 
 -- of so many bytes of a file those that some file may have: none is longer than 4 GiB
 abbrev pub len_in_files : ℕ → ℕ → ℕ

@@ -2,20 +2,20 @@
 use Rattle.std.specs.Prelude.{◌≡◌, ◌++◌, Bool, true, IsTrue, List, [], ◌∷◌, map, Option, Some, None}
 use Rattle.std.specs.List.{list_all}
 use Rattle.script_text.specs.Action.{Action}
-use Rattle.machine_host.specs.Machine.{Machine}
-use Rattle.machine_host.specs.Machine.Fate.{Works}
-use Rattle.machine_host.specs.Commands.{fate, refusal, while_interrupted}
+use Rattle.explorer.specs.MachineModel.Machine.{Machine}
+use Rattle.explorer.specs.MachineModel.Machine.Fate.{Works}
+use Rattle.explorer.specs.MachineModel.Commands.{fate, refusal, while_interrupted}
 use Rattle.reply_text.specs.Answer.{Answer}
-use Rattle.outcomes.specs.Finds.{IsReady}
-use Rattle.outcomes.specs.Seen.{Seen, may_show}
-use Rattle.outcomes.specs.Stops.{is_of_program}
-use Rattle.asked_reads.specs.declared.read.Read.{Read}
-use Rattle.cut_places.specs.declared.place.CutPlace.{CutPlace}
-use Rattle.sights.specs.declared.way.Way.{Way}
+use Rattle.explorer.specs.Outcomes.Finds.{IsReady}
+use Rattle.explorer.specs.Outcomes.Seen.{Seen, may_show}
+use Rattle.explorer.specs.Outcomes.Stops.{is_of_program}
+use Rattle.explorer.specs.AskedReads.declared.read.Read.{Read}
+use Rattle.explorer.specs.CutPlaces.declared.place.CutPlace.{CutPlace}
+use Rattle.explorer.specs.SightsSeen.declared.way.Way.{Way}
 use Rattle.outcome_walk.specs.declared.level.Rows.{Rows}
 use Rattle.outcome_walk.specs.declared.sides.Sides.{Sides}
 use Rattle.outcome_walk.specs.Walking.{both, is_shown, moved, stands}
-use Rattle.value_tables.specs.Listed.{IsSound}
+use Rattle.explorer.specs.ValueTables.Listed.{IsSound}
 use Rattle.outcome_lists.specs.declared.place.Place.{Place}
 use Rattle.outcome_lists.specs.declared.ways.Ways.{Ways}
 use Rattle.outcome_lists.specs.Apart.{grouped}

@@ -4,7 +4,7 @@ use Rattle.outcome_walk.specs.declared.level.Rows.{Rows}
 use Rattle.outcome_walk.specs.declared.sides.Sides.{Sides}
 use Rattle.outcome_walk.specs.Numbers.{numeral}
 use Rattle.outcome_walk.specs.Walking.{Part, Trail, begun, stands, walked}
-use Rattle.cut_places.specs.declared.place.CutPlace.{CutPlace}
+use Rattle.explorer.specs.CutPlaces.declared.place.CutPlace.{CutPlace}
 use Rattle.outcome_lists.specs.declared.place.Place.{Place}
 use Rattle.outcome_lists.specs.Lists.{place_text}
 use Rattle.outcome_lists.specs.Outcomes.{Outcome}

@@ -1,10 +1,10 @@
 -- A word of the volume or of a file, as it is held.
 use Rattle.std.specs.Prelude.{ℕ}
-use Rattle.outcomes.specs.Pages.{PageReply}
-use Rattle.outcomes.specs.Seen.{Seen}
-use Rattle.outcomes.specs.Seen.Seen.{of_file, of_volume}
-use Rattle.asked_reads.specs.declared.read.Read.{Read}
-use Rattle.asked_reads.specs.declared.read.Read.TheVariants.{Volume, File}
+use Rattle.explorer.specs.Outcomes.Pages.{PageReply}
+use Rattle.explorer.specs.Outcomes.Seen.{Seen}
+use Rattle.explorer.specs.Outcomes.Seen.Seen.{of_file, of_volume}
+use Rattle.explorer.specs.AskedReads.declared.read.Read.{Read}
+use Rattle.explorer.specs.AskedReads.declared.read.Read.TheVariants.{Volume, File}
 use Rattle.outcome_lists.specs.declared.word.Word.{Word}
 use Rattle.outcome_lists.specs.declared.word.Word.TheVariants.{OfVolume, OfFile}
 

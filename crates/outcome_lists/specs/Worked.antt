@@ -1,11 +1,11 @@
 -- Worked lists, from the program's script on.
 use Rattle.std.specs.Prelude.{◌≡◌, ℕ, List, [], ◌∷◌, codes}
 use Rattle.script_text.specs.Script.{inputs}
-use Rattle.machine_host.specs.Restarting.{fresh}
-use Rattle.machine_host.specs.Rows.{small, text}
-use Rattle.outcomes.specs.Finds.{armed}
-use Rattle.asked_reads.specs.declared.read.Read.{Read}
-use Rattle.asked_reads.specs.declared.read.Read.TheVariants.{Blocks, File, Volume}
+use Rattle.explorer.specs.MachineModel.Restarting.{fresh}
+use Rattle.explorer.specs.MachineModel.WorkedScripts.{small, text}
+use Rattle.explorer.specs.Outcomes.Finds.{armed}
+use Rattle.explorer.specs.AskedReads.declared.read.Read.{Read}
+use Rattle.explorer.specs.AskedReads.declared.read.Read.TheVariants.{Blocks, File, Volume}
 use Rattle.outcome_lists.specs.Lists.{outcome_list}
 
 -- a program on a new device of two volume pages, eight blocks and no file, what it looks at, and the list of its outcomes

@@ -4,7 +4,7 @@ ghost use Rattle.outcome_lists.specs.Asking.{asked, seen_asked};
 ghost use Rattle.outcome_lists.specs.Outcomes.{and_seen};
 
 use crate::copies::{block_copy, file_copy, page_copy};
-use asked_reads::{BlockRead, FileRead, PageRead, Question};
+use explorer::reads_asked::{BlockRead, FileRead, PageRead, Question};
 use nvm_base::Bytes;
 use std::alloc::{AllocError, Global};
 

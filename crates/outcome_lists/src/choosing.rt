@@ -1,7 +1,7 @@
 // The ways that a part of a look may be found.
 ghost use Rattle.std.specs.Prelude.{◌≡◌, ◌++◌, IfOk, OnOk, map};
-ghost use Rattle.asked_reads.specs.Reads.{page_reply};
-ghost use Rattle.asked_reads.specs.declared.read.Read.TheVariants.{Blocks as OfBlocks};
+ghost use Rattle.explorer.specs.AskedReads.Reads.{page_reply};
+ghost use Rattle.explorer.specs.AskedReads.declared.read.Read.TheVariants.{Blocks as OfBlocks};
 ghost use Rattle.outcome_lists.specs.Asking.{choice_held, choices_held};
 ghost use Rattle.outcome_lists.specs.Choices.{block_choice, block_choices, choices_from, file_choices, head, value_choice, word_choices};
 ghost use Rattle.outcome_lists.specs.Words.{part_of_word, seen_of_word, start_of_word};
@@ -10,14 +10,14 @@ use crate::choice::{Asks, Choice};
 use crate::copies::bytes_copy;
 use crate::gathered::Gathered;
 use crate::word::Word;
-use asked_reads::{BlockRead, BlockReply, PageReply, Read};
 use block_sights::{HeldBlock, Unreadable};
+use explorer::reads_asked::{BlockRead, BlockReply, PageReply, Read};
+use explorer::sights_seen::print_sight;
 use nvm_base::{Bytes, LINE, print_bytes, print_number};
 use reply_text::Why;
-use sights::print_sight;
 use std::alloc::{AllocError, Global};
 
-/// Those of a part that ever is this: of a word also that it can't be read, and of a file's that it may not be there.
+/// Choices of a part at these places: of a word also that it can't be read, and of a file's that it may not exist.
 pub fn choices_from(
     alloc: Global,
     part: &Read,

@@ -1,8 +1,8 @@
 // A read that is asked, once more.
 ghost use Rattle.std.specs.Prelude.{◌≡◌, IfOk};
-ghost use Rattle.asked_reads.specs.Reads.{block_read, block_reply, file_read, page_read, page_reply};
+ghost use Rattle.explorer.specs.AskedReads.Reads.{block_read, block_reply, file_read, page_read, page_reply};
 
-use asked_reads::{BlockRead, BlockReply, FileRead, PageRead, PageReply};
+use explorer::reads_asked::{BlockRead, BlockReply, FileRead, PageRead, PageReply};
 use nvm_base::Bytes;
 use std::alloc::{AllocError, Global};
 

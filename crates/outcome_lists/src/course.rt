@@ -3,23 +3,23 @@ ghost use Rattle.std.specs.Prelude.{◌≡◌, ◌∷◌, [], IfOk, IsTrue, List
 ghost use Rattle.script_text.specs.Action.{action_of};
 ghost use Rattle.script_text.specs.Parsing.{InBounds};
 ghost use Rattle.word_tables.specs.Bounds.{IsValid};
-ghost use Rattle.machine_host.specs.Commands.{fate, refusal};
-ghost use Rattle.machine_host.specs.Machine.{Machine};
-ghost use Rattle.outcomes.specs.Stops.{is_of_program, led_to};
-ghost use Rattle.asked_reads.specs.declared.question.Question.{Question};
-ghost use Rattle.asked_reads.specs.declared.read.Read.{Read as Reading};
-ghost use Rattle.cut_places.specs.Following.{Follows, IsWhole};
-ghost use Rattle.value_tables.specs.Looking.{IsOf};
+ghost use Rattle.explorer.specs.MachineModel.Commands.{fate, refusal};
+ghost use Rattle.explorer.specs.MachineModel.Machine.{Machine};
+ghost use Rattle.explorer.specs.Outcomes.Stops.{is_of_program, led_to};
+ghost use Rattle.explorer.specs.AskedReads.declared.question.Question.{Question};
+ghost use Rattle.explorer.specs.AskedReads.declared.read.Read.{Read as Reading};
+ghost use Rattle.explorer.specs.CutPlaces.Following.{Follows, IsWhole};
+ghost use Rattle.explorer.specs.ValueTables.Looking.{IsOf};
 ghost use Rattle.outcome_lists.specs.Courses.{IsAt};
 ghost use Rattle.outcome_lists.specs.Parts.{IsPart};
 
 use crate::passed::Passed;
-use asked_reads::Read;
-use cut_places::{FilesSeen, Sight};
+use explorer::places::{FilesSeen, Sight};
+use explorer::reads_asked::Read;
+use explorer::sights_seen::{BlockSeen, LineSeen};
+use explorer::tables::copied;
 use script_text::Command;
-use sights::{BlockSeen, LineSeen};
 use std::alloc::{AllocError, Global};
-use value_tables::copied;
 use word_tables::Geometry;
 
 #[derive(Clone, Copy)]
@@ -33,7 +33,7 @@ pub struct Course<'a> {
 }
 
 impl Course<'_> {
-    /// What is looked at for one part.
+    /// Sight of one part.
     pub fn sight_of_part(
         &self,
         alloc: Global,
@@ -60,7 +60,7 @@ impl Course<'_> {
     }
 }
 
-/// These lines and blocks, and all files.
+/// Sight of these lines and blocks, and of all files.
 pub fn sight_of(
     alloc: Global,
     lines: &[LineSeen],
@@ -78,7 +78,7 @@ pub fn sight_of(
     })
 }
 
-/// What is looked at, from before a command to behind it: it changes where that is done.
+/// Sight from before a command to after it: it changes where the command is done.
 pub fn follow(
     geometry: Geometry,
     command: &Command,

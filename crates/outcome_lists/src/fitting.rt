@@ -1,10 +1,10 @@
 // Which states of a program show a choice alone.
 ghost use Rattle.std.specs.Prelude.{◌≡◌, ◌∷◌, [], IfOk, map};
 ghost use Rattle.word_tables.specs.Bounds.{IsValid};
-ghost use Rattle.machine_host.specs.Machine.{Machine};
-ghost use Rattle.outcomes.specs.Seen.{may_show};
-ghost use Rattle.asked_reads.specs.Program.{inputs_of_lines};
-ghost use Rattle.cut_places.specs.Following.{Follows, IsWhole};
+ghost use Rattle.explorer.specs.MachineModel.Machine.{Machine};
+ghost use Rattle.explorer.specs.Outcomes.Seen.{may_show};
+ghost use Rattle.explorer.specs.AskedReads.Program.{inputs_of_lines};
+ghost use Rattle.explorer.specs.CutPlaces.Following.{Follows, IsWhole};
 ghost use Rattle.outcome_walk.specs.Holding.{way_held, ways_held};
 ghost use Rattle.outcome_lists.specs.Asking.{asked, choice_held, choices_held};
 ghost use Rattle.outcome_lists.specs.Choices.{states};
@@ -17,10 +17,10 @@ use crate::choice::Choice;
 use crate::copies::bytes_copy;
 use crate::course::{Course, follow};
 use crate::passed::Passed;
-use asked_reads::{Question, Read};
-use cut_places::Sight;
+use explorer::places::Sight;
+use explorer::reads_asked::{Question, Read};
+use explorer::sights_seen::may_be_replies;
 use outcome_walk::Choice as Fitted;
-use sights::may_be_replies;
 use std::alloc::{AllocError, Global};
 use word_tables::Geometry;
 

@@ -1,21 +1,21 @@
 // What a part of a look ever is.
 ghost use Rattle.std.specs.Prelude.{◌≡◌, ◌++◌, [], ◌∷◌, OnOk, None};
 ghost use Rattle.word_tables.specs.declared.geometry.Geometry.{Geometry};
-ghost use Rattle.machine_host.specs.Machine.{Machine};
-ghost use Rattle.cut_places.specs.Following.{Follows};
-ghost use Rattle.value_tables.specs.Looking.{IsOf};
-ghost use Rattle.value_tables.specs.Rows.{read_refusal};
-ghost use Rattle.value_tables.specs.Values.{with_one};
-ghost use Rattle.sights.specs.BlockTelling.{same_sight};
+ghost use Rattle.explorer.specs.MachineModel.Machine.{Machine};
+ghost use Rattle.explorer.specs.CutPlaces.Following.{Follows};
+ghost use Rattle.explorer.specs.ValueTables.Looking.{IsOf};
+ghost use Rattle.explorer.specs.ValueTables.Rows.{read_refusal};
+ghost use Rattle.explorer.specs.ValueTables.Values.{with_one};
+ghost use Rattle.explorer.specs.SightsSeen.BlockTelling.{same_sight};
 ghost use Rattle.outcome_lists.specs.Choices.{sights_through, values_through};
 
-use asked_reads::Read;
 use block_sights::HeldBlock;
-use cut_places::Sight;
+use explorer::places::Sight;
+use explorer::reads_asked::Read;
+use explorer::sights_seen::same_block;
+use explorer::tables::{FileValues, WORDS};
 use nvm_base::WORD;
-use sights::same_block;
 use std::alloc::{AllocError, Global};
-use value_tables::{FileValues, WORDS};
 
 /// The values of its word, or what is seen of its block, each once, in the order in which they come.
 #[derive(Drop)]

@@ -1,17 +1,17 @@
 // What a part of a look is in each state of a program.
 ghost use Rattle.std.specs.Prelude.{◌≡◌, [], ◌∷◌, IfOk, None};
-ghost use Rattle.machine_host.specs.Machine.{Machine};
-ghost use Rattle.asked_reads.specs.Program.{inputs_of_lines};
-ghost use Rattle.cut_places.specs.Following.{AreDone, Follows};
-ghost use Rattle.value_tables.specs.Looking.{IsOf};
-ghost use Rattle.value_tables.specs.Rows.{read_refusal};
+ghost use Rattle.explorer.specs.MachineModel.Machine.{Machine};
+ghost use Rattle.explorer.specs.AskedReads.Program.{inputs_of_lines};
+ghost use Rattle.explorer.specs.CutPlaces.Following.{AreDone, Follows};
+ghost use Rattle.explorer.specs.ValueTables.Looking.{IsOf};
+ghost use Rattle.explorer.specs.ValueTables.Rows.{read_refusal};
 ghost use Rattle.outcome_lists.specs.Choices.{sights_through, states, values_through};
 ghost use Rattle.outcome_lists.specs.Courses.{IsCourse};
 
 use crate::course::{Course, follow};
 use crate::gathered::Gathered;
-use asked_reads::Read;
-use cut_places::Sight;
+use explorer::places::Sight;
+use explorer::reads_asked::Read;
 use std::alloc::{AllocError, Global};
 
 /// All of them, from what is looked at before the program on: the line, the block or the file of the part alone.

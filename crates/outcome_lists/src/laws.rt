@@ -2,16 +2,16 @@
 ghost use Rattle.std.specs.Prelude.{◌≡◌, ◌*◌, ◌<◌, ℕ, All, true, Contains, List, [], length};
 ghost use Rattle.block_sights.specs.Sights.{Sight};
 ghost use Rattle.script_text.specs.Script.{Input};
-ghost use Rattle.machine_host.specs.Machine.{Machine};
-ghost use Rattle.durable.specs.Durable.{BringBytes};
-ghost use Rattle.outcomes.specs.Finds.{IsReady};
-ghost use Rattle.outcomes.specs.Pages.PageReply.{Shows};
-ghost use Rattle.outcomes.specs.Seen.{Seen, may_show};
-ghost use Rattle.outcomes.specs.Stops.{IsProgram};
-ghost use Rattle.asked_reads.specs.declared.read.Read.{Read};
-ghost use Rattle.asked_reads.specs.declared.read.Read.TheVariants.{Volume, Blocks, File};
-ghost use Rattle.cut_places.specs.Places.{Stop, cut_places};
-ghost use Rattle.value_tables.specs.Listed.{IsSized, IsSound, block_read, file_word_read, lists_bytes, lists_sight, reply_of, word_read};
+ghost use Rattle.explorer.specs.MachineModel.Machine.{Machine};
+ghost use Rattle.explorer.specs.Durable.Durable.{BringBytes};
+ghost use Rattle.explorer.specs.Outcomes.Finds.{IsReady};
+ghost use Rattle.explorer.specs.Outcomes.Pages.PageReply.{Shows};
+ghost use Rattle.explorer.specs.Outcomes.Seen.{Seen, may_show};
+ghost use Rattle.explorer.specs.Outcomes.Stops.{IsProgram};
+ghost use Rattle.explorer.specs.AskedReads.declared.read.Read.{Read};
+ghost use Rattle.explorer.specs.AskedReads.declared.read.Read.TheVariants.{Volume, Blocks, File};
+ghost use Rattle.explorer.specs.CutPlaces.Places.{Stop, cut_places};
+ghost use Rattle.explorer.specs.ValueTables.Listed.{IsSized, IsSound, block_read, file_word_read, lists_bytes, lists_sight, reply_of, word_read};
 ghost use Rattle.explorer.specs.Starting.{AreDurable, HaveDurable};
 ghost use Rattle.outcome_lists.specs.Choices.{sights_through, states, values_through};
 ghost use Rattle.outcome_lists.specs.Listing.{IsFound, StandOnce};
@@ -27,7 +27,7 @@ pub fn each_listed_outcome_is_found()
     ensures { (h : Machine) (program : List Input) (parts : List Read) (o : Outcome) → Contains (outcomes_of h program parts) o → IsFound h program parts o }
 {}
 
-/// And whatever choices are found together, one of each part, are an outcome of the list.
+/// Choices that are found together, one of each part, are an outcome of the list.
 pub fn each_outcome_is_listed()
     ensures { (h : Machine) (program : List Input) (parts : List Read) (o : Outcome) → IsFound h program parts o → Contains (outcomes_of h program parts) o }
 {}

@@ -1,8 +1,8 @@
 // The parts of a look with their choices, and how they go together at each place of a cut.
 ghost use Rattle.std.specs.Prelude.{◌≡◌, ◌∷◌, [], IfOk, None, map, option_map};
-ghost use Rattle.machine_host.specs.Machine.{Machine};
-ghost use Rattle.asked_reads.specs.Program.{inputs_of_lines};
-ghost use Rattle.value_tables.specs.Looking.{IsOf};
+ghost use Rattle.explorer.specs.MachineModel.Machine.{Machine};
+ghost use Rattle.explorer.specs.AskedReads.Program.{inputs_of_lines};
+ghost use Rattle.explorer.specs.ValueTables.Looking.{IsOf};
 ghost use Rattle.outcome_walk.specs.Holding.{parts_held};
 ghost use Rattle.outcome_lists.specs.declared.place.Place.{Place as CutAt};
 ghost use Rattle.outcome_lists.specs.Asking.{choices_held};
@@ -20,11 +20,11 @@ use crate::fitting::fitted;
 use crate::gathering::gather;
 use crate::passed::Passed;
 use crate::place::Place;
-use asked_reads::Read;
+use explorer::reads_asked::Read;
 use outcome_walk::{Level, Link};
 use std::alloc::{AllocError, Global};
 
-/// Those of these parts, of which the course looks at the lines, blocks and files.
+/// Levels of these parts, of which the course looks at the lines, blocks and files.
 pub fn levels(
     alloc: Global,
     course: &Course<'_>,

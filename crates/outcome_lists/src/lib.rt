@@ -26,6 +26,8 @@ pub use apart::{
     blocks_are_shown_each_for_itself, file_words_are_shown_each_for_itself,
     looks_are_shown_group_by_group, sides_stand_by_groups, words_are_shown_each_for_itself,
 };
+pub use explorer as exploring;
+pub use explorer::{durable_laws, host, reads_asked, runs, tables, witness};
 pub use laws::{
     a_shorter_look_is_shown, each_listed_outcome_is_found, each_outcome_is_listed,
     each_way_is_a_choice, no_outcome_stands_twice,

@@ -3,13 +3,13 @@ ghost use Rattle.std.specs.Prelude.{◌≡◌, ◌+◌, ◌*◌, ◌≤◌, ◌<
 ghost use Rattle.std.specs.List.{position_or_len};
 ghost use Rattle.word_tables.specs.Bounds.{IsValid};
 ghost use Rattle.nvm_base.specs.Units.{units_of};
-ghost use Rattle.value_tables.specs.Rows.{read_refusal};
+ghost use Rattle.explorer.specs.ValueTables.Rows.{read_refusal};
 ghost use Rattle.outcome_lists.specs.Parts.{AreInOrder, AreParts, IsPart, comes_before, part, parts_of, parts_read, reach, same_part, unless_refused, with_part, with_parts};
 
-use asked_reads::Read;
+use explorer::reads_asked::Read;
+use explorer::tables::read_refusal;
 use nvm_base::{Span, WORD};
 use std::alloc::{AllocError, Global};
-use value_tables::read_refusal;
 use word_tables::Geometry;
 
 /// No file has a byte from here on.

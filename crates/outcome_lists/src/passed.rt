@@ -1,12 +1,12 @@
 // How far the parts of a look have come among what is looked at.
 ghost use Rattle.std.specs.Prelude.{◌≡◌, ◌+◌, ◌<◌, ◌^◌, length};
 ghost use Rattle.word_tables.specs.declared.geometry.Geometry.{Geometry};
-ghost use Rattle.cut_places.specs.declared.sight.Sight.{Sight};
-ghost use Rattle.value_tables.specs.Looking.{blocks_touched, lines_touched};
+ghost use Rattle.explorer.specs.CutPlaces.declared.sight.Sight.{Sight};
+ghost use Rattle.explorer.specs.ValueTables.Looking.{blocks_touched, lines_touched};
 ghost use Rattle.outcome_lists.specs.Courses.{IsAt};
 ghost use Rattle.outcome_lists.specs.Parts.{IsPart};
 
-use asked_reads::Read;
+use explorer::reads_asked::Read;
 
 /// How many lines and blocks come before a part.
 #[derive(Drop)]

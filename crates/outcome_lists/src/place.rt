@@ -1,6 +1,6 @@
 // A place of a cut.
 use crate::ways::Ways;
-use cut_places::CutPlace;
+use explorer::places::CutPlace;
 use outcome_walk::Rows;
 
 #[derive(Clone, Copy, Debug, PartialEq, Eq)]

@@ -1,9 +1,9 @@
 // All places of a cut in a program.
 ghost use Rattle.std.specs.Prelude.{◌≡◌, ◌<◌, ◌^◌, ◌++◌, ◌∷◌, IfOk, OnOk};
 ghost use Rattle.script_text.specs.Action.{action_of};
-ghost use Rattle.machine_host.specs.Machine.{Machine};
-ghost use Rattle.asked_reads.specs.Program.{inputs_of_lines};
-ghost use Rattle.cut_places.specs.SeesFiles.{SeesFiles};
+ghost use Rattle.explorer.specs.MachineModel.Machine.{Machine};
+ghost use Rattle.explorer.specs.AskedReads.Program.{inputs_of_lines};
+ghost use Rattle.explorer.specs.CutPlaces.SeesFiles.{SeesFiles};
 ghost use Rattle.outcome_lists.specs.Courses.{IsCourse, IsFrom};
 ghost use Rattle.outcome_lists.specs.Levels.{before_place, inside_places, places};
 ghost use Rattle.outcome_lists.specs.Mixing.{ways_inside};
@@ -11,7 +11,7 @@ ghost use Rattle.outcome_lists.specs.Mixing.{ways_inside};
 use crate::course::{Course, follow, sight_of};
 use crate::place::Place;
 use crate::ways::Ways;
-use cut_places::{CutPlace, FilesSeen};
+use explorer::places::{CutPlace, FilesSeen};
 use outcome_walk::Rows;
 use script_text::Command;
 use std::alloc::{AllocError, Global};

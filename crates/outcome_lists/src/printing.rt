@@ -6,7 +6,7 @@ ghost use Rattle.outcome_lists.specs.Lists.{place_text};
 ghost use Rattle.outcome_lists.specs.Walks.{first_place, rows_of, trail_line, trail_lines, walk_text};
 
 use crate::place::Place;
-use cut_places::CutPlace;
+use explorer::places::CutPlace;
 use nvm_base::{Bytes, print_number};
 use outcome_walk::{Found, Level, Rows, Sides, Tally, count, walk};
 use std::alloc::{AllocError, Global};

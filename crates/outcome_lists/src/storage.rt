@@ -2,10 +2,10 @@
 ghost use Rattle.std.specs.Prelude.{◌≡◌};
 ghost use Rattle.outcome_lists.specs.Mixing.{page_of, same_kind, same_storage, unit_of};
 
-use asked_reads::Read;
+use explorer::reads_asked::Read;
 use nvm_base::{LINE, PAGE};
 
-/// Both are words of the volume, blocks, or words of files.
+/// Whether both are words of the volume, blocks, or words of files.
 pub fn same_kind(part: &Read, other: &Read) -> bool
     ensures { result ≡ same_kind part.now other.now }
 {
@@ -19,7 +19,7 @@ pub fn same_kind(part: &Read, other: &Read) -> bool
     }
 }
 
-/// They are so, and of one file where they are of files.
+/// Whether both are of one kind, and of one file where they are of files.
 pub fn same_storage(part: &Read, other: &Read) -> bool
     ensures { result ≡ same_storage part.now other.now }
 {

@@ -1,16 +1,16 @@
 // How the parts of a look go together where a cut falls inside a command.
 ghost use Rattle.std.specs.Prelude.{◌≡◌, option_map};
 ghost use Rattle.script_text.specs.Action.{action_of};
-ghost use Rattle.machine_host.specs.Machine.{Machine};
-ghost use Rattle.cut_places.specs.SeesFiles.{SeesFiles};
+ghost use Rattle.explorer.specs.MachineModel.Machine.{Machine};
+ghost use Rattle.explorer.specs.CutPlaces.SeesFiles.{SeesFiles};
 ghost use Rattle.outcome_lists.specs.Mixing.{go_together, link, link_to, still, ways_inside};
 
 use crate::storage::{page_of, same_kind, same_storage, unit_of};
-use asked_reads::Read;
-use cut_places::FilesSeen;
+use explorer::places::FilesSeen;
+use explorer::reads_asked::Read;
+use explorer::sights_seen::Way;
 use outcome_walk::Link;
 use script_text::Command;
-use sights::Way;
 
 /// How old and new are mixed, by the kind of storage; None where all of it is as it was.
 #[derive(Clone, Copy, Debug, PartialEq, Eq)]

@@ -1,12 +1,12 @@
 // A part of a look that is a word, of the volume or of a file.
 ghost use Rattle.std.specs.Prelude.{◌≡◌, ◌++◌, OnOk};
-ghost use Rattle.asked_reads.specs.Reads.{page_reply};
+ghost use Rattle.explorer.specs.AskedReads.Reads.{page_reply};
 ghost use Rattle.outcome_lists.specs.Asking.{seen_asked};
 ghost use Rattle.outcome_lists.specs.Choices.{head};
 ghost use Rattle.outcome_lists.specs.Words.{part_of_word, seen_of_word, start_of_word};
 
 use crate::choice::Asks;
-use asked_reads::{FileRead, PageRead, PageReply};
+use explorer::reads_asked::{FileRead, PageRead, PageReply};
 use nvm_base::{Bytes, Name, print_number};
 use std::alloc::AllocError;
 

@@ -9,14 +9,14 @@ use Rattle.reply_text.specs.Answer.Answer.{DoneBad}
 use Rattle.script_text.specs.Action.Action.{Cut, Restart}
 use Rattle.script_text.specs.Script.{Input}
 use Rattle.script_text.specs.Script.Input.{Asked}
-use Rattle.machine_host.specs.declared.mode.Mode.TheVariants.{Off}
-use Rattle.machine_host.specs.Machine.{Machine, bad_of}
-use Rattle.machine_host.specs.Machine.Fate.{Restarts}
-use Rattle.machine_host.specs.Commands.{fate, meaning, refusal, unless_refused}
-use Rattle.machine_host.specs.Meaning.{first_reason, mode_refusal}
-use Rattle.machine_host.specs.Restarting.{holding}
-use Rattle.machine_host.specs.Run.{Hears, Run, Transcript, followed_by}
-use Rattle.machine_host.specs.Settling.{disarmed}
+use Rattle.machine_model.specs.declared.mode.Mode.TheVariants.{Off}
+use Rattle.machine_model.specs.Machine.{Machine, bad_of}
+use Rattle.machine_model.specs.Machine.Fate.{Restarts}
+use Rattle.machine_model.specs.Commands.{fate, meaning, refusal, unless_refused}
+use Rattle.machine_model.specs.Meaning.{first_reason, mode_refusal}
+use Rattle.machine_model.specs.Restarting.{holding}
+use Rattle.machine_model.specs.Run.{Hears, Run, Transcript, followed_by}
+use Rattle.machine_model.specs.Settling.{disarmed}
 use Rattle.durable.specs.Durable.{HasNothing, IsComplete, IsCounted}
 use Rattle.durable.proofs.FileThereLemmas.{lines-files_left}
 use Rattle.durable.proofs.ThereLemmas.{lines-left}

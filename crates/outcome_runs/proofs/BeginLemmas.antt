@@ -11,9 +11,9 @@ use Rattle.file_journal.specs.Area.{file_area}
 use Rattle.file_journal.specs.Reading.{tables_read, words_read, wrong_file_place, wrong_table}
 use Rattle.file_journal.specs.Tables.{AreTables}
 use Rattle.file_journal.proofs.TableReadLemmas.{right_tables}
-use Rattle.machine_host.specs.Lines.{bad_metadata}
-use Rattle.machine_host.specs.Machine.{Machine}
-use Rattle.machine_host.specs.Restarting.{fresh, read_with, reading, zero_image}
+use Rattle.machine_model.specs.Lines.{bad_metadata}
+use Rattle.machine_model.specs.Machine.{Machine}
+use Rattle.machine_model.specs.Restarting.{fresh, read_with, reading, zero_image}
 use Rattle.durable.specs.Durable.{IsComplete}
 use Rattle.durable.proofs.WholeLemmas.{whole-fresh, whole-reading}
 use Rattle.recovery.proofs.ZeroFileLemmas.{words_all, words_at, zero_tables}

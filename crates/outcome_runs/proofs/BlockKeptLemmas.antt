@@ -9,8 +9,8 @@ use Rattle.nvm_model.specs.Storage.Block.{Absent, Scarred, Data}
 use Rattle.nvm_model.proofs.NumberedLemmas.{length-list_from, length-map_from}
 use Rattle.script_text.specs.Action.{Action}
 use Rattle.script_text.specs.Action.Action.{BWrite, BAtomic, BMulti, BDiscard, BDiscardIf, BScar, PoisonBlock}
-use Rattle.machine_host.specs.Commands.{meaning}
-use Rattle.machine_host.specs.OnBlocks.{blocks_from}
+use Rattle.machine_model.specs.Commands.{meaning}
+use Rattle.machine_model.specs.OnBlocks.{blocks_from}
 use Rattle.durable.proofs.StepKinds.{blocks_after}
 use Rattle.state_images.specs.Storable.{AreBytes, AreLinesOfBytes, AreWholeBlocks, IsLineOfBytes, IsWholeBlock}
 use Rattle.outcome_runs.specs.Brings.{BringsRight}

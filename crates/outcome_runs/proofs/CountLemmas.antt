@@ -8,7 +8,7 @@ use Rattle.nvm_model.specs.Numbered.{map_from}
 use Rattle.nvm_model.specs.Page.{Page, absent_among, is_present, presence_of}
 use Rattle.nvm_model.specs.Page.Page.{Absent, Present}
 use Rattle.nvm_model.specs.Storage.{File}
-use Rattle.machine_host.specs.OnPages.{pages_used, pages_used_in}
+use Rattle.machine_model.specs.OnPages.{pages_used, pages_used_in}
 use Rattle.state_images.specs.Files.{all_present, present_pages}
 
 -- of marks, of a file's pages, and of all files

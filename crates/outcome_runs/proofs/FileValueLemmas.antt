@@ -2,7 +2,7 @@
 use Rattle.std.proofs.Common.{List}
 use Rattle.nvm_model.specs.Storage.{File, Mapping}
 use Rattle.script_text.specs.Action.{Action}
-use Rattle.machine_host.specs.Commands.{meaning}
+use Rattle.machine_model.specs.Commands.{meaning}
 use Rattle.outcomes.specs.Outcome.{AllHaveValues}
 use Rattle.durable.proofs.StepKinds.{files_made}
 use Rattle.outcomes.proofs.FileHistoryLemmas.{files_after_hold, files_made_hold}

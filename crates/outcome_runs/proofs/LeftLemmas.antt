@@ -7,9 +7,9 @@ use Rattle.nvm_model.specs.Cell.Cell.{Bad, Kept}
 use Rattle.nvm_model.specs.Page.{Page, cell_of}
 use Rattle.nvm_model.specs.Storage.{Block, File}
 use Rattle.script_text.specs.Action.{Action}
-use Rattle.machine_host.specs.Commands.{LeavesBlocks, MayLeaveBlocks, meaning}
-use Rattle.machine_host.specs.Meaning.{BlocksLeft}
-use Rattle.machine_host.specs.Meaning.BlocksLeft.{Same, Either, Mixed}
+use Rattle.machine_model.specs.Commands.{LeavesBlocks, MayLeaveBlocks, meaning}
+use Rattle.machine_model.specs.Meaning.{BlocksLeft}
+use Rattle.machine_model.specs.Meaning.BlocksLeft.{Same, Either, Mixed}
 use Rattle.durable.specs.Durable.{AllHaveLines, HaveLines, IsLineThere}
 use Rattle.durable.specs.Place.{is_line_present}
 use Rattle.durable.proofs.PresenceLemmas.{absent_line}

@@ -16,10 +16,10 @@ use Rattle.nvm_model.specs.Page.{Page, cell_in, cell_of, fill}
 use Rattle.nvm_model.specs.Storage.{File, Mapping}
 use Rattle.nvm_model.specs.Touched.{persist_touched, touches_any}
 use Rattle.script_text.specs.Action.{Action}
-use Rattle.machine_host.specs.Commands.{LeavesFiles, LeavesVolume, MayLeaveFiles, MayLeaveVolume, meaning}
-use Rattle.machine_host.specs.Meaning.{FilesLeft, VolumeLeft}
-use Rattle.machine_host.specs.Meaning.FilesLeft.{Unchanged, OldOrNew, StoredInPart, SyncedInPart}
-use Rattle.machine_host.specs.Meaning.VolumeLeft.{Kept as AsItWas, PartStored, PartSynced, AllOrNone, PageByPage}
+use Rattle.machine_model.specs.Commands.{LeavesFiles, LeavesVolume, MayLeaveFiles, MayLeaveVolume, meaning}
+use Rattle.machine_model.specs.Meaning.{FilesLeft, VolumeLeft}
+use Rattle.machine_model.specs.Meaning.FilesLeft.{Unchanged, OldOrNew, StoredInPart, SyncedInPart}
+use Rattle.machine_model.specs.Meaning.VolumeLeft.{Kept as AsItWas, PartStored, PartSynced, AllOrNone, PageByPage}
 use Rattle.outcomes.specs.Outcome.{AllHaveValues, HasValues, HaveValues}
 use Rattle.outcome_runs.proofs.FileValueLemmas.{files_made_have}
 use Rattle.outcomes.proofs.ValueLemmas.{fill_have, flushed_has, made_have, stored_words, zeros_have}

@@ -15,15 +15,15 @@ use Rattle.nvm_model.specs.Storage.{File, Mapping}
 use Rattle.nvm_model.proofs.PageLemmas.{length-fill, presence_of-put}
 use Rattle.script_text.specs.Action.{Action}
 use Rattle.script_text.specs.Action.Action.{FWrite, Load, Store, Sync, Flush, FlushVerify, DeepFlush}
-use Rattle.machine_host.specs.Commands.{LeavesFiles, MayLeaveFiles, meaning, refusal}
-use Rattle.machine_host.specs.Machine.{Machine}
-use Rattle.machine_host.specs.Meaning.{FilesLeft}
-use Rattle.machine_host.specs.Meaning.FilesLeft.{Unchanged, OldOrNew, StoredInPart, SyncedInPart}
-use Rattle.machine_host.specs.OnFlushes.{all_moved, flush_file, flush_through, flush_with, nothing_done}
-use Rattle.machine_host.specs.OnMappings.{load_through, read_copy, store_through, write_copy}
-use Rattle.machine_host.specs.OnPages.{fread, fwrite, stored_in}
-use Rattle.machine_host.specs.declared.look.Look.{Look}
-use Rattle.machine_host.specs.declared.look.Look.TheVariants.{Once, Again}
+use Rattle.machine_model.specs.Commands.{LeavesFiles, MayLeaveFiles, meaning, refusal}
+use Rattle.machine_model.specs.Machine.{Machine}
+use Rattle.machine_model.specs.Meaning.{FilesLeft}
+use Rattle.machine_model.specs.Meaning.FilesLeft.{Unchanged, OldOrNew, StoredInPart, SyncedInPart}
+use Rattle.machine_model.specs.OnFlushes.{all_moved, flush_file, flush_through, flush_with, nothing_done}
+use Rattle.machine_model.specs.OnMappings.{load_through, read_copy, store_through, write_copy}
+use Rattle.machine_model.specs.OnPages.{fread, fwrite, stored_in}
+use Rattle.machine_model.specs.declared.look.Look.{Look}
+use Rattle.machine_model.specs.declared.look.Look.TheVariants.{Once, Again}
 use Rattle.outcome_runs.specs.Brings.{BringsRight}
 use Rattle.outcome_runs.specs.Kept.{AreListed}
 use Rattle.outcome_runs.proofs.CountLemmas.{all_used, marked, used}

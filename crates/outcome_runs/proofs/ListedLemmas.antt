@@ -13,7 +13,7 @@ use Rattle.nvm_model.specs.Page.{Page}
 use Rattle.nvm_model.specs.Storage.{File}
 use Rattle.nvm_model.proofs.FileLemmas.{change-none, named-not}
 use Rattle.nvm_model.proofs.OrderLemmas.{before-itself}
-use Rattle.machine_host.specs.OnPages.{pages_named}
+use Rattle.machine_model.specs.OnPages.{pages_named}
 use Rattle.outcome_runs.specs.Kept.{AreListed, HaveNames}
 use Rattle.outcome_runs.proofs.CountLemmas.{all_used, room_used, used}
 

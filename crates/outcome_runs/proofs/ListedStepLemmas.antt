@@ -28,18 +28,18 @@ use Rattle.reply_text.specs.Answer.Answer.{Refused}
 use Rattle.reply_text.specs.declared.reply.Why.TheVariants as because
 use Rattle.script_text.specs.Action.{Action}
 use Rattle.script_text.specs.Action.Action.{Create, Delete, Rename, Resize, FWrite, FAtomic, FMulti, FDiscard, FSync, Load, Store, Sync, Flush, FlushVerify, DeepFlush, PoisonFile, WeakenFile, ClearFile}
-use Rattle.machine_host.specs.Commands.{meaning, refusal}
-use Rattle.machine_host.specs.Machine.{Machine}
-use Rattle.machine_host.specs.Meaning.{Reasons, mode_refusal, no_reasons, span_refusal}
-use Rattle.machine_host.specs.OnFileActions.{written_together}
-use Rattle.machine_host.specs.OnFileErrors.{marked_in}
-use Rattle.machine_host.specs.OnFiles.{if_exists, if_mapped, if_missing}
-use Rattle.machine_host.specs.OnFlushes.{all_moved, flush_file, flush_through, flush_with, nothing_done, synced_in}
-use Rattle.machine_host.specs.OnMappings.{store_through, write_copy}
-use Rattle.machine_host.specs.OnPages.{fwrite, if_full, page_answer, pages_named, pages_used, stored_in}
-use Rattle.machine_host.specs.declared.look.Look.{Look}
-use Rattle.machine_host.specs.declared.look.Look.TheVariants.{Once, Again}
-use Rattle.machine_host.proofs.RefusalLemmas.{span_allowed}
+use Rattle.machine_model.specs.Commands.{meaning, refusal}
+use Rattle.machine_model.specs.Machine.{Machine}
+use Rattle.machine_model.specs.Meaning.{Reasons, mode_refusal, no_reasons, span_refusal}
+use Rattle.machine_model.specs.OnFileActions.{written_together}
+use Rattle.machine_model.specs.OnFileErrors.{marked_in}
+use Rattle.machine_model.specs.OnFiles.{if_exists, if_mapped, if_missing}
+use Rattle.machine_model.specs.OnFlushes.{all_moved, flush_file, flush_through, flush_with, nothing_done, synced_in}
+use Rattle.machine_model.specs.OnMappings.{store_through, write_copy}
+use Rattle.machine_model.specs.OnPages.{fwrite, if_full, page_answer, pages_named, pages_used, stored_in}
+use Rattle.machine_model.specs.declared.look.Look.{Look}
+use Rattle.machine_model.specs.declared.look.Look.TheVariants.{Once, Again}
+use Rattle.machine_model.proofs.RefusalLemmas.{span_allowed}
 use Rattle.durable.proofs.FileKeepLemmas.{load-leaves}
 use Rattle.durable.proofs.RefusalLemmas.{first_none, places_none}
 use Rattle.durable.proofs.StepKinds.{files_made}

@@ -3,10 +3,10 @@ use Rattle.std.proofs.Common.{◌≡◌, inl, inr, Option, List, [], ◌∷◌, 
 use Rattle.reply_text.specs.Answer.{Answer}
 use Rattle.reply_text.specs.Answer.Answer.{Bytes}
 use Rattle.script_text.specs.Script.Input.{Asked}
-use Rattle.machine_host.specs.Machine.{Fate, Machine}
-use Rattle.machine_host.specs.Machine.Fate.{Works}
-use Rattle.machine_host.specs.Commands.{meaning, spending, unless_refused}
-use Rattle.machine_host.specs.Run.{Hears, Run, Takes, Transcript, answered, followed_by, silence, worked}
+use Rattle.machine_model.specs.Machine.{Fate, Machine}
+use Rattle.machine_model.specs.Machine.Fate.{Works}
+use Rattle.machine_model.specs.Commands.{meaning, spending, unless_refused}
+use Rattle.machine_model.specs.Run.{Hears, Run, Takes, Transcript, answered, followed_by, silence, worked}
 use Rattle.outcomes.specs.Outcome.{AllShown, Shown, bytes_seen}
 use Rattle.outcomes.specs.Seen.{Seen, answer, answers, asked, command}
 use Rattle.outcomes.proofs.LookLemmas.{comes_of}

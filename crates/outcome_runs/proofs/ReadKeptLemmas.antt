@@ -28,7 +28,7 @@ use Rattle.file_journal.specs.Standing.{file_read, files_read, line_of_file, pag
 use Rattle.file_journal.specs.Tables.{AreTables, Tables, unit_at}
 use Rattle.file_journal.proofs.FilesOfLemmas.{file_of-slot}
 use Rattle.file_journal.proofs.RestartLemmas.{read-stands}
-use Rattle.machine_host.proofs.UsedPageLemmas.{used_seen}
+use Rattle.machine_model.proofs.UsedPageLemmas.{used_seen}
 use Rattle.outcomes.specs.Outcome.{AllHaveValues, HasValues, HaveValues}
 use Rattle.state_images.specs.Storable.{AreWholeBlocks, IsLineOfBytes, IsWholeBlock}
 use Rattle.outcome_runs.specs.Kept.{AreListed, HaveNames}

@@ -19,10 +19,10 @@ use Rattle.reply_text.specs.Answer.{Answer}
 use Rattle.script_text.specs.Action.{Action}
 use Rattle.script_text.specs.Script.{Input}
 use Rattle.script_text.specs.Script.Input.{Skipped, Malformed, Overlong, Asked}
-use Rattle.machine_host.specs.Commands.{MayLeaveFiles, meaning, refusal}
-use Rattle.machine_host.specs.declared.mode.Mode.TheVariants.{On}
-use Rattle.machine_host.specs.Machine.{Machine}
-use Rattle.machine_host.specs.Run.{Run, Transcript}
+use Rattle.machine_model.specs.Commands.{MayLeaveFiles, meaning, refusal}
+use Rattle.machine_model.specs.declared.mode.Mode.TheVariants.{On}
+use Rattle.machine_model.specs.Machine.{Machine}
+use Rattle.machine_model.specs.Run.{Run, Transcript}
 use Rattle.durable.specs.Durable.{HasNothing, IsComplete}
 use Rattle.durable.proofs.RefusalLemmas.{is_on}
 use Rattle.durable.proofs.StepKinds.{Alters, Idles, Remounts, Returns, Step, Stops, blocks_after, files_made, volume_after}

@@ -13,12 +13,12 @@ use Rattle.reply_text.specs.Answer.{Answer}
 use Rattle.reply_text.specs.Answer.Answer.{Bytes, Refused}
 use Rattle.reply_text.specs.declared.reply.Why.TheVariants as because
 use Rattle.script_text.specs.Action.Action.{FRead, VLoad}
-use Rattle.machine_host.specs.Commands.{refusal}
-use Rattle.machine_host.specs.Machine.{Machine}
-use Rattle.machine_host.specs.Meaning.{most_refusal}
-use Rattle.machine_host.specs.OnPages.{page_answer as file_answer, pages_named}
-use Rattle.machine_host.specs.OnVolume.{volume_answer}
-use Rattle.machine_host.specs.Restarting.{holding}
+use Rattle.machine_model.specs.Commands.{refusal}
+use Rattle.machine_model.specs.Machine.{Machine}
+use Rattle.machine_model.specs.Meaning.{most_refusal}
+use Rattle.machine_model.specs.OnPages.{page_answer as file_answer, pages_named}
+use Rattle.machine_model.specs.OnVolume.{volume_answer}
+use Rattle.machine_model.specs.Restarting.{holding}
 use Rattle.durable.specs.Durable.{AllHaveLines}
 use Rattle.outcomes.specs.Files.{FileRead}
 use Rattle.outcomes.specs.Outcome.{AllShown, FilesSurvive, Shown, bytes_seen}

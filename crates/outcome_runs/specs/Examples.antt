@@ -1,8 +1,8 @@
 -- Worked programs: what runs find after a cut, from the script's bytes on.
 use Rattle.std.specs.Prelude.{ℕ, List, [], ◌∷◌, codes, replicate}
 use Rattle.script_text.specs.Script.{inputs}
-use Rattle.machine_host.specs.Restarting.{fresh}
-use Rattle.machine_host.specs.Rows.{small, text}
+use Rattle.machine_model.specs.Restarting.{fresh}
+use Rattle.machine_model.specs.WorkedScripts.{small, text}
 use Rattle.outcomes.specs.Finds.{Finds}
 use Rattle.outcomes.specs.Pages.PageReply.{Shows}
 use Rattle.outcomes.specs.Rows.{counted_too_early, fread, one_of_two}

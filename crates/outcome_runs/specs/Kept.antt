@@ -5,7 +5,7 @@ use Rattle.word_tables.specs.declared.geometry.Geometry.{Geometry}
 use Rattle.word_tables.specs.Bounds.{IsValid}
 use Rattle.nvm_model.specs.Listing.{file_name, rises}
 use Rattle.nvm_model.specs.Storage.{File}
-use Rattle.machine_host.specs.Machine.{Machine}
+use Rattle.machine_model.specs.Machine.{Machine}
 use Rattle.outcomes.specs.Outcome.{AllHaveValues, HaveValues}
 use Rattle.state_images.specs.Files.{all_present}
 use Rattle.state_images.specs.Storable.{AreWholeBlocks}

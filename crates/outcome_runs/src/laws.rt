@@ -6,11 +6,11 @@ ghost use Rattle.word_tables.specs.Bounds.{IsValid};
 ghost use Rattle.word_tables.specs.Layout.{total_lines};
 ghost use Rattle.file_journal.specs.Reading.{wrong_file_place};
 ghost use Rattle.script_text.specs.Script.{Input, inputs};
-ghost use Rattle.machine_host.specs.declared.mode.Mode.TheVariants.{On};
-ghost use Rattle.machine_host.specs.Lines.{bad_metadata};
-ghost use Rattle.machine_host.specs.Machine.{Machine};
-ghost use Rattle.machine_host.specs.Restarting.{fresh, reading};
-ghost use Rattle.machine_host.specs.Run.{Run, Transcript};
+ghost use Rattle.machine_model.specs.declared.mode.Mode.TheVariants.{On};
+ghost use Rattle.machine_model.specs.Lines.{bad_metadata};
+ghost use Rattle.machine_model.specs.Machine.{Machine};
+ghost use Rattle.machine_model.specs.Restarting.{fresh, reading};
+ghost use Rattle.machine_model.specs.Run.{Run, Transcript};
 ghost use Rattle.outcomes.specs.Finds.{Finds, IsReady, may_find};
 ghost use Rattle.outcomes.specs.Seen.{Seen};
 ghost use Rattle.outcomes.specs.Stops.{IsProgram};
@@ -32,12 +32,12 @@ pub fn runs_keep_states()
         → h.mode ≡ On → h.bad_meta ≡ [] → h.fail_armed ≡ false → IsReady h }
 {}
 
-/// Whatever a script says, its commands bring what is right.
+/// Whatever a script is, its commands bring what is right.
 pub fn scripts_bring_right()
     ensures { (script : List ℕ) → BringRight (inputs script) }
 {}
 
-/// Whatever the test tells may be found is found: some run of the machine comes to it.
+/// Whatever the test allows to be found is found: some run of the machine comes to it.
 pub fn what_may_be_found_is_found()
     ensures { (h : Machine) (program : List Input) (look : List Seen) → IsReady h → IsKept h → IsProgram program → BringRight program
         → may_find h program look ≡ true → Finds h program look }
@@ -45,7 +45,7 @@ pub fn what_may_be_found_is_found()
     what_may_be_shown_is_left();
 }
 
-/// So the test tells exactly what runs find, and of a script that runs on a new device whatever it says.
+/// The test is exactly what runs find, and of a script that runs on a new device whatever it says.
 pub fn the_test_tells_what_is_found()
     ensures states { (h : Machine) (program : List Input) (look : List Seen) → IsReady h → IsKept h → IsProgram program → BringRight program
         → may_find h program look ≡ true ↔ Finds h program look }

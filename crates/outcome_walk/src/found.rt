@@ -26,7 +26,7 @@ impl Found {
         first_standing(&self.sides)
     }
 
-    /// That of no part.
+    /// Standing of no part.
     pub(crate) fn begun(alloc: Global, places: &[Rows]) -> Result<Self, AllocError>
         ensures { IfOk result (λ found. trail_held found ≡ begun places.now) }
     {

@@ -11,11 +11,11 @@ pub struct Rows {
 /// How a part stands at a place to the part before it.
 #[derive(Clone, Copy, PartialEq, Eq, Debug)]
 pub enum Link {
-    /// What is interrupted there does not change its kind of storage.
+    /// Part of a kind of storage that no interrupted command changes.
     Alone,
-    /// It begins a group, which is wholly old or wholly new.
+    /// First part of a group, which is wholly old or wholly new.
     Opens,
-    /// It is of the group of the part before it.
+    /// Part of the group of the part before it.
     Joins,
 }
 

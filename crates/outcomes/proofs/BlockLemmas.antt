@@ -17,10 +17,10 @@ use Rattle.reply_text.specs.Answer.{Answer, why_text}
 use Rattle.reply_text.specs.Answer.Answer.{Bytes, Refused}
 use Rattle.reply_text.specs.declared.reply.Why.{Why}
 use Rattle.script_text.specs.Action.{Action}
-use Rattle.machine_host.specs.Commands.{LeavesBlocks, MayLeaveBlocks, meaning}
-use Rattle.machine_host.specs.Meaning.{BlocksLeft, most_refusal}
-use Rattle.machine_host.specs.Meaning.BlocksLeft.{Same, Either, Mixed}
-use Rattle.machine_host.specs.OnBlocks.{refusal_answer}
+use Rattle.machine_model.specs.Commands.{LeavesBlocks, MayLeaveBlocks, meaning}
+use Rattle.machine_model.specs.Meaning.{BlocksLeft, most_refusal}
+use Rattle.machine_model.specs.Meaning.BlocksLeft.{Same, Either, Mixed}
+use Rattle.machine_model.specs.OnBlocks.{refusal_answer}
 use Rattle.durable.specs.Naming.{IsLowestObstacle}
 use Rattle.outcomes.specs.Blocks.{BlockRead, BlockReply, allows, block_fits, has_bytes, is_bad_line, is_block_reply, is_block_reply_by, is_scar}
 use Rattle.outcomes.specs.Blocks.BlockReply.{Shows, Scar, BadLine, Refuses}

@@ -12,9 +12,9 @@ use Rattle.nvm_model.specs.Storage.Block.{Absent}
 use Rattle.nvm_model.proofs.NumberedLemmas.{list_from-is}
 use Rattle.reply_text.specs.declared.reply.Why.{Why}
 use Rattle.script_text.specs.Action.{Action}
-use Rattle.machine_host.specs.Commands.{LeavesBlocks, MayLeaveBlocks, meaning}
-use Rattle.machine_host.specs.Meaning.{BlocksLeft, most_refusal}
-use Rattle.machine_host.specs.Meaning.BlocksLeft.{Same, Either, Mixed}
+use Rattle.machine_model.specs.Commands.{LeavesBlocks, MayLeaveBlocks, meaning}
+use Rattle.machine_model.specs.Meaning.{BlocksLeft, most_refusal}
+use Rattle.machine_model.specs.Meaning.BlocksLeft.{Same, Either, Mixed}
 use Rattle.durable.proofs.WholeLemmas.{length-made}
 use Rattle.outcomes.specs.Blocks.{BlockRead, BlockReply, all_numbers_read, allows, block_fits, has_bytes, is_bad_line, is_block_refusal, is_block_reply, is_block_reply_by, is_read_of_blocks, is_scar, numbers_read}
 use Rattle.outcomes.specs.Blocks.BlockReply.{Shows, Scar, BadLine, Refuses}

@@ -10,11 +10,11 @@ use Rattle.block_device.specs.Refusals.Refusal.{Unreadable}
 use Rattle.reply_text.specs.Answer.Answer.{Refused}
 use Rattle.reply_text.specs.declared.reply.Why.{Why}
 use Rattle.script_text.specs.Action.Action.{BRead}
-use Rattle.machine_host.specs.Machine.{Machine}
-use Rattle.machine_host.specs.Commands.{MayLeaveBlocks, refusal}
-use Rattle.machine_host.specs.Meaning.{most_refusal}
-use Rattle.machine_host.specs.OnBlocks.{refusal_answer}
-use Rattle.machine_host.specs.Restarting.{holding}
+use Rattle.machine_model.specs.Machine.{Machine}
+use Rattle.machine_model.specs.Commands.{MayLeaveBlocks, refusal}
+use Rattle.machine_model.specs.Meaning.{most_refusal}
+use Rattle.machine_model.specs.OnBlocks.{refusal_answer}
+use Rattle.machine_model.specs.Restarting.{holding}
 use Rattle.outcomes.specs.Blocks.{BlockRead, all_numbers_read, block_fits, is_block_reply}
 use Rattle.outcomes.specs.Left.{blocks_may_pass}
 use Rattle.outcomes.specs.Outcome.{AllShown, BlocksOutcome, Shown}

@@ -11,9 +11,9 @@ use Rattle.nvm_model.specs.Page.{Page, cell_in, cell_of, fill, map_lines, persis
 use Rattle.nvm_model.proofs.NumberedLemmas.{length-map_from}
 use Rattle.nvm_model.proofs.PageLemmas.{cell_of-map, cell_of-persist, cell_of-put, presence_of-lines}
 use Rattle.script_text.specs.Action.{Action}
-use Rattle.machine_host.specs.Commands.{LeavesVolume, MayLeaveVolume, meaning}
-use Rattle.machine_host.specs.Meaning.{VolumeLeft}
-use Rattle.machine_host.specs.Meaning.VolumeLeft.{Kept as Unchanged, PartStored, PartSynced, AllOrNone, PageByPage}
+use Rattle.machine_model.specs.Commands.{LeavesVolume, MayLeaveVolume, meaning}
+use Rattle.machine_model.specs.Meaning.{VolumeLeft}
+use Rattle.machine_model.specs.Meaning.VolumeLeft.{Kept as Unchanged, PartStored, PartSynced, AllOrNone, PageByPage}
 use Rattle.durable.proofs.WholeLemmas.{pages-made}
 use Rattle.outcomes.specs.Left.{stored_passes, volume_may_pass, volume_passes}
 use Rattle.outcomes.specs.Outcome.{HasValues, HaveValues}

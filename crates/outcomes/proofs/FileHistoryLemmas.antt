@@ -18,13 +18,13 @@ use Rattle.file_actions.specs.Refusals.{all_bytes}
 use Rattle.file_actions.specs.Rewriting.{durable_line, rewritten, rewritten_page, touches_any_page}
 use Rattle.script_text.specs.Action.{Action}
 use Rattle.script_text.specs.Action.Action.{Create, Delete, Rename, Resize, FWrite, FAtomic, FMulti, FDiscard, FSync, Load, Store, Sync, Flush, FlushVerify, DeepFlush, PoisonFile, WeakenFile, ClearFile}
-use Rattle.machine_host.specs.Commands.{meaning}
-use Rattle.machine_host.specs.declared.look.Look.{Look}
-use Rattle.machine_host.specs.declared.look.Look.TheVariants.{Once, Again}
-use Rattle.machine_host.specs.OnFileErrors.{marked_in}
-use Rattle.machine_host.specs.OnFlushes.{all_moved, flush_file, flush_through, flush_with, nothing_done, synced_in}
-use Rattle.machine_host.specs.OnMappings.{store_through, write_copy}
-use Rattle.machine_host.specs.OnPages.{fwrite, stored_in}
+use Rattle.machine_model.specs.Commands.{meaning}
+use Rattle.machine_model.specs.declared.look.Look.{Look}
+use Rattle.machine_model.specs.declared.look.Look.TheVariants.{Once, Again}
+use Rattle.machine_model.specs.OnFileErrors.{marked_in}
+use Rattle.machine_model.specs.OnFlushes.{all_moved, flush_file, flush_through, flush_with, nothing_done, synced_in}
+use Rattle.machine_model.specs.OnMappings.{store_through, write_copy}
+use Rattle.machine_model.specs.OnPages.{fwrite, stored_in}
 use Rattle.durable.proofs.FileKeepLemmas.{load-leaves}
 use Rattle.durable.proofs.RewrittenLemmas.{byte_rewritten}
 use Rattle.durable.proofs.StepKinds.{files_made}

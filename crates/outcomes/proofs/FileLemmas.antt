@@ -20,10 +20,10 @@ use Rattle.file_journal.specs.Reading.{tables_read}
 use Rattle.file_journal.specs.Files.{UnitFile, files_of, unit_file_name}
 use Rattle.file_journal.specs.Standing.{KeepsFile, KeepsFiles, file_read, files_read}
 use Rattle.script_text.specs.Action.{Action}
-use Rattle.machine_host.specs.Commands.{LeavesFiles, MayLeaveFiles, meaning}
-use Rattle.machine_host.specs.Meaning.{FilesLeft}
-use Rattle.machine_host.specs.Meaning.FilesLeft.{Unchanged, OldOrNew, StoredInPart, SyncedInPart}
-use Rattle.machine_host.specs.OnPages.{pages_named}
+use Rattle.machine_model.specs.Commands.{LeavesFiles, MayLeaveFiles, meaning}
+use Rattle.machine_model.specs.Meaning.{FilesLeft}
+use Rattle.machine_model.specs.Meaning.FilesLeft.{Unchanged, OldOrNew, StoredInPart, SyncedInPart}
+use Rattle.machine_model.specs.OnPages.{pages_named}
 use Rattle.durable.proofs.NamedPageLemmas.{named-left, named-read}
 use Rattle.durable.proofs.WholeLemmas.{pages-there}
 use Rattle.outcomes.specs.Files.{FileRead, all_but, each_file, file_fits, files_fit, is_file_reply, is_reply_of, reads_of}

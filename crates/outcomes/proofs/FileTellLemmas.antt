@@ -19,10 +19,10 @@ use Rattle.nvm_model.proofs.PageLemmas.{cell_of-map, cell_of-put, length-fill}
 use Rattle.nvm_model.proofs.SeveralLemmas.{cell_of-spans}
 use Rattle.nvm_model.proofs.AlikeLemmas.{alike-has}
 use Rattle.script_text.specs.Action.{Action}
-use Rattle.machine_host.specs.Commands.{LeavesFiles, MayLeaveFiles, meaning}
-use Rattle.machine_host.specs.Meaning.{FilesLeft}
-use Rattle.machine_host.specs.Meaning.FilesLeft.{Unchanged, OldOrNew, StoredInPart, SyncedInPart}
-use Rattle.machine_host.specs.OnPages.{pages_named}
+use Rattle.machine_model.specs.Commands.{LeavesFiles, MayLeaveFiles, meaning}
+use Rattle.machine_model.specs.Meaning.{FilesLeft}
+use Rattle.machine_model.specs.Meaning.FilesLeft.{Unchanged, OldOrNew, StoredInPart, SyncedInPart}
+use Rattle.machine_model.specs.OnPages.{pages_named}
 use Rattle.durable.proofs.NamedPageLemmas.{named-change, named-own}
 use Rattle.outcomes.specs.Files.{FileRead, all_but, each_file, file_fits, files_fit, is_file_reply, reads_of}
 use Rattle.outcomes.specs.Left.{files_may_pass, files_pass, stored_file, synced_file}

@@ -11,12 +11,12 @@ use Rattle.reply_text.specs.Answer.Answer.{PoisonFile, Refused}
 use Rattle.reply_text.specs.declared.reply.Why.{Why}
 use Rattle.reply_text.specs.declared.reply.Why.TheVariants as because
 use Rattle.script_text.specs.Action.Action.{FRead}
-use Rattle.machine_host.specs.Machine.{Machine}
-use Rattle.machine_host.specs.Commands.{MayLeaveFiles, refusal}
-use Rattle.machine_host.specs.Meaning.{most_refusal}
-use Rattle.machine_host.specs.OnFiles.{if_missing}
-use Rattle.machine_host.specs.OnPages.{page_answer as file_answer, pages_named}
-use Rattle.machine_host.specs.Restarting.{holding}
+use Rattle.machine_model.specs.Machine.{Machine}
+use Rattle.machine_model.specs.Commands.{MayLeaveFiles, refusal}
+use Rattle.machine_model.specs.Meaning.{most_refusal}
+use Rattle.machine_model.specs.OnFiles.{if_missing}
+use Rattle.machine_model.specs.OnPages.{page_answer as file_answer, pages_named}
+use Rattle.machine_model.specs.Restarting.{holding}
 use Rattle.durable.specs.Durable.{IsComplete}
 use Rattle.durable.proofs.FileThereLemmas.{lines-files_left, lines-named}
 use Rattle.outcomes.specs.Files.{FileRead, is_file_reply, is_reply_of, reads_of}

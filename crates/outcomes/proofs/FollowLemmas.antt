@@ -6,15 +6,15 @@ use Rattle.nvm_model.specs.Storage.{Mapping}
 use Rattle.reply_text.specs.Answer.Answer.{Done, Handle}
 use Rattle.script_text.specs.Action.{Action}
 use Rattle.script_text.specs.Action.Action.{Map, Load, Store, Sync, Flush, FlushVerify, DeepFlush, PoisonMeta, Cut, CutIn, FailIn, Restart, Recover, Attr}
-use Rattle.machine_host.specs.declared.look.Look.{Look}
-use Rattle.machine_host.specs.declared.look.Look.TheVariants.{Once, Again}
-use Rattle.machine_host.specs.declared.needs.Needs.TheVariants.{Usable}
-use Rattle.machine_host.specs.Machine.{Machine, Fate}
-use Rattle.machine_host.specs.Machine.Fate.{Gives, Works, Orders, Cuts, Restarts, Recovers}
-use Rattle.machine_host.specs.Commands.{meaning}
-use Rattle.machine_host.specs.OnFlushes.{all_moved, flush_file, flush_through, flush_with, nothing_done}
-use Rattle.machine_host.specs.OnMappings.{load_through, read_copy, store_through, with_mapping, write_copy}
-use Rattle.machine_host.specs.OnPages.{fread, fwrite}
+use Rattle.machine_model.specs.declared.look.Look.{Look}
+use Rattle.machine_model.specs.declared.look.Look.TheVariants.{Once, Again}
+use Rattle.machine_model.specs.declared.needs.Needs.TheVariants.{Usable}
+use Rattle.machine_model.specs.Machine.{Machine, Fate}
+use Rattle.machine_model.specs.Machine.Fate.{Gives, Works, Orders, Cuts, Restarts, Recovers}
+use Rattle.machine_model.specs.Commands.{meaning}
+use Rattle.machine_model.specs.OnFlushes.{all_moved, flush_file, flush_through, flush_with, nothing_done}
+use Rattle.machine_model.specs.OnMappings.{load_through, read_copy, store_through, with_mapping, write_copy}
+use Rattle.machine_model.specs.OnPages.{fread, fwrite}
 use Rattle.outcomes.specs.Stops.{is_of_program}
 
 -- it is on still, nothing is interrupted, no metadata is bad, no failure is armed, and a cut is, where it was so before

@@ -13,11 +13,11 @@ use Rattle.script_text.specs.Action.{Action}
 use Rattle.script_text.specs.Action.Action.{Cut}
 use Rattle.script_text.specs.Script.{Input}
 use Rattle.script_text.specs.Script.Input.{Asked}
-use Rattle.machine_host.specs.Machine.{Machine}
-use Rattle.machine_host.specs.OnPages.{pages_named}
-use Rattle.machine_host.specs.Restarting.{MayLeaveStorage}
-use Rattle.machine_host.specs.Run.{Run}
-use Rattle.machine_host.specs.Settling.{disarmed}
+use Rattle.machine_model.specs.Machine.{Machine}
+use Rattle.machine_model.specs.OnPages.{pages_named}
+use Rattle.machine_model.specs.Restarting.{MayLeaveStorage}
+use Rattle.machine_model.specs.Run.{Run}
+use Rattle.machine_model.specs.Settling.{disarmed}
 use Rattle.durable.specs.Durable.{HasNothing, IsComplete, IsCounted}
 use Rattle.durable.proofs.FileThereLemmas.{lines-files_left, lines-named}
 use Rattle.durable.proofs.NamedPageLemmas.{named-read}

@@ -16,8 +16,8 @@ use Rattle.nvm_model.proofs.NumberedLemmas.{slice_get-map_from}
 use Rattle.nvm_model.proofs.PageLemmas.{cell_of-discard, cell_of-map}
 use Rattle.script_text.specs.Action.{Action}
 use Rattle.script_text.specs.Action.Action.{FAtomic, FMulti, FWrite, Store, VStore, VSync, VPSync, VDiscard, VDiscardIf, ClearVolume, PoisonVolume, WeakenVolume}
-use Rattle.machine_host.specs.Commands.{meaning}
-use Rattle.machine_host.specs.OnVolume.{persist_at}
+use Rattle.machine_model.specs.Commands.{meaning}
+use Rattle.machine_model.specs.OnVolume.{persist_at}
 use Rattle.pm_volume.specs.Refusals.{physical_offset}
 use Rattle.durable.proofs.RewrittenLemmas.{byte_rewritten}
 use Rattle.durable.proofs.StepKinds.{volume_after}

@@ -18,9 +18,9 @@ use Rattle.nvm_model.specs.Page.{Page, cell_in, cell_of, fill, persist, put}
 use Rattle.nvm_model.proofs.NumberedLemmas.{slice_get-map_from}
 use Rattle.nvm_model.proofs.PageLemmas.{cell_of-persist, cell_of-put}
 use Rattle.script_text.specs.Action.{Action}
-use Rattle.machine_host.specs.Commands.{LeavesVolume, MayLeaveVolume, meaning}
-use Rattle.machine_host.specs.Meaning.{VolumeLeft}
-use Rattle.machine_host.specs.Meaning.VolumeLeft.{Kept as Unchanged, PartStored, PartSynced, AllOrNone, PageByPage}
+use Rattle.machine_model.specs.Commands.{LeavesVolume, MayLeaveVolume, meaning}
+use Rattle.machine_model.specs.Meaning.{VolumeLeft}
+use Rattle.machine_model.specs.Meaning.VolumeLeft.{Kept as Unchanged, PartStored, PartSynced, AllOrNone, PageByPage}
 use Rattle.outcomes.specs.Pages.{PageRead, all_agree, all_allow_good, line_fits, words_fit}
 use Rattle.outcomes.specs.Left.{stored_passes, volume_may_pass, volume_passes}
 use Rattle.outcomes.specs.Ways.{each_passes, group_passes}

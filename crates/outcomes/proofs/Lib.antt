@@ -22,3 +22,5 @@ mod BlockTellLemmas
 mod BlocksShownLemmas
 mod FileTellLemmas
 mod FilesShownLemmas
+pub use Rattle.durable.proofs as Durable
+pub use Rattle.machine_model.proofs as MachineModel

@@ -10,14 +10,14 @@ use Rattle.reply_text.specs.Answer.{Answer}
 use Rattle.reply_text.specs.Answer.Answer.{Bytes, DoneBad}
 use Rattle.script_text.specs.Action.{Action}
 use Rattle.script_text.specs.Action.Action.{Restart}
-use Rattle.machine_host.specs.Machine.{Machine}
-use Rattle.machine_host.specs.Machine.Fate.{Works}
-use Rattle.machine_host.specs.Commands.{fate, meaning, refusal, unless_refused, while_interrupted}
-use Rattle.machine_host.specs.Interrupted.{Interrupts, interrupted_answer}
-use Rattle.machine_host.specs.Lines.{bad_metadata}
-use Rattle.machine_host.specs.Restarting.{RestartMayLeave, read_with, reading}
-use Rattle.machine_host.specs.Settling.{disarmed}
-use Rattle.machine_host.specs.Run.{Run, Takes, Transcript}
+use Rattle.machine_model.specs.Machine.{Machine}
+use Rattle.machine_model.specs.Machine.Fate.{Works}
+use Rattle.machine_model.specs.Commands.{fate, meaning, refusal, unless_refused, while_interrupted}
+use Rattle.machine_model.specs.Interrupted.{Interrupts, interrupted_answer}
+use Rattle.machine_model.specs.Lines.{bad_metadata}
+use Rattle.machine_model.specs.Restarting.{RestartMayLeave, read_with, reading}
+use Rattle.machine_model.specs.Settling.{disarmed}
+use Rattle.machine_model.specs.Run.{Run, Takes, Transcript}
 use Rattle.durable.proofs.RefusalLemmas.{refused_told}
 use Rattle.durable.proofs.RefusedAnswerLemmas.{is_refused}
 use Rattle.nvm_model.specs.Page.{look}

@@ -16,8 +16,8 @@ use Rattle.nvm_model.proofs.PageLemmas.{cell_of-read_pages, page_of_line, read_p
 use Rattle.reply_text.specs.Answer.{Answer, why_text}
 use Rattle.reply_text.specs.Answer.Answer.{Bytes, Refused}
 use Rattle.reply_text.specs.declared.reply.Why.{Why}
-use Rattle.machine_host.specs.Meaning.{most_refusal}
-use Rattle.machine_host.proofs.RefusalLemmas.{read_within}
+use Rattle.machine_model.specs.Meaning.{most_refusal}
+use Rattle.machine_model.proofs.RefusalLemmas.{read_within}
 use Rattle.durable.specs.Durable.{HaveLines, IsLineThere}
 use Rattle.outcomes.specs.Pages.{PageRead, PageReply, is_reply, is_reply_by}
 use Rattle.outcomes.specs.Pages.PageReply.{Shows, Poison, Refuses}

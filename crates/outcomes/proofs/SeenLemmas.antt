@@ -17,13 +17,13 @@ use Rattle.reply_text.specs.Answer.Answer.{PoisonFile, PoisonVolume, Refused}
 use Rattle.reply_text.specs.declared.reply.Why.{Why}
 use Rattle.reply_text.specs.declared.reply.Why.TheVariants as because
 use Rattle.script_text.specs.Action.Action.{BRead, FRead, VLoad}
-use Rattle.machine_host.specs.Commands.{refusal}
-use Rattle.machine_host.specs.Meaning.{most_refusal}
-use Rattle.machine_host.specs.OnBlocks.{refusal_answer}
-use Rattle.machine_host.specs.OnFiles.{if_missing}
-use Rattle.machine_host.specs.OnPages.{page_answer as file_answer, pages_named}
-use Rattle.machine_host.specs.OnVolume.{volume_answer}
-use Rattle.machine_host.specs.Restarting.{read_with}
+use Rattle.machine_model.specs.Commands.{refusal}
+use Rattle.machine_model.specs.Meaning.{most_refusal}
+use Rattle.machine_model.specs.OnBlocks.{refusal_answer}
+use Rattle.machine_model.specs.OnFiles.{if_missing}
+use Rattle.machine_model.specs.OnPages.{page_answer as file_answer, pages_named}
+use Rattle.machine_model.specs.OnVolume.{volume_answer}
+use Rattle.machine_model.specs.Restarting.{read_with}
 use Rattle.outcomes.specs.Files.{FileRead, is_file_reply, is_reply_of, reads_of}
 use Rattle.outcomes.specs.Pages.{PageRead, is_refused_for, is_reply}
 use Rattle.outcomes.specs.Pages.PageReply.{Refuses}

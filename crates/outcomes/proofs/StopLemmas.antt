@@ -10,14 +10,14 @@ use Rattle.script_text.specs.Action.{Action}
 use Rattle.script_text.specs.Action.Action.{Cut}
 use Rattle.script_text.specs.Script.{Input}
 use Rattle.script_text.specs.Script.Input.{Skipped, Malformed, Overlong, Asked}
-use Rattle.machine_host.specs.declared.mode.Mode.TheVariants.{On, Off}
-use Rattle.machine_host.specs.declared.needs.Needs.TheVariants.{Powered, Usable}
-use Rattle.machine_host.specs.Machine.{Machine, Fate}
-use Rattle.machine_host.specs.Machine.Fate.{Gives, Works, Orders, Cuts, Restarts, Recovers}
-use Rattle.machine_host.specs.Commands.{fate, meaning, refusal, unless_refused, while_interrupted}
-use Rattle.machine_host.specs.Interrupted.{Interrupts}
-use Rattle.machine_host.specs.Meaning.{first_reason, mode_refusal}
-use Rattle.machine_host.specs.Run.{Run, Takes, Transcript}
+use Rattle.machine_model.specs.declared.mode.Mode.TheVariants.{On, Off}
+use Rattle.machine_model.specs.declared.needs.Needs.TheVariants.{Powered, Usable}
+use Rattle.machine_model.specs.Machine.{Machine, Fate}
+use Rattle.machine_model.specs.Machine.Fate.{Gives, Works, Orders, Cuts, Restarts, Recovers}
+use Rattle.machine_model.specs.Commands.{fate, meaning, refusal, unless_refused, while_interrupted}
+use Rattle.machine_model.specs.Interrupted.{Interrupts}
+use Rattle.machine_model.specs.Meaning.{first_reason, mode_refusal}
+use Rattle.machine_model.specs.Run.{Run, Takes, Transcript}
 use Rattle.durable.specs.Durable.{IsComplete}
 use Rattle.durable.proofs.WholeLemmas.{whole-heard}
 use Rattle.outcomes.specs.Finds.{IsReady}

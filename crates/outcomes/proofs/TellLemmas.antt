@@ -14,8 +14,8 @@ use Rattle.nvm_model.specs.Page.{Page, byte_in, cell_of, first_bad_line, is_bad_
 use Rattle.nvm_model.proofs.NumberedLemmas.{list_from-is, slice_get-map_from}
 use Rattle.page_lines.proofs.LoopLemmas.{touches-within, within-touches}
 use Rattle.reply_text.specs.declared.reply.Why.{Why}
-use Rattle.machine_host.specs.Meaning.{most_refusal}
-use Rattle.machine_host.proofs.RefusalLemmas.{read_within}
+use Rattle.machine_model.specs.Meaning.{most_refusal}
+use Rattle.machine_model.proofs.RefusalLemmas.{read_within}
 use Rattle.durable.specs.Naming.{IsLowestBad}
 use Rattle.durable.proofs.LineLemmas.{byte_at-zero}
 use Rattle.outcomes.specs.Pages.{PageRead, PageReply, agrees, all_agree, all_allow_good, all_lines_read, allows_bad, allows_good, is_given, is_refused_for, is_reply, is_reply_by, line_fits, lines_read, words_fit}

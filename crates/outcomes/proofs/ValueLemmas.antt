@@ -10,7 +10,7 @@ use Rattle.nvm_model.specs.Numbered.{map_from}
 use Rattle.nvm_model.specs.Page.{Page, fill, map_lines}
 use Rattle.script_text.specs.Action.{Action}
 use Rattle.script_text.specs.Action.Action.{FAtomic, FMulti, FWrite, Store, VStore}
-use Rattle.machine_host.specs.Commands.{meaning}
+use Rattle.machine_model.specs.Commands.{meaning}
 use Rattle.durable.proofs.StepKinds.{volume_after}
 use Rattle.outcomes.specs.Outcome.{HasValues, HaveValues}
 use Rattle.outcomes.proofs.HistoryLemmas as History

@@ -11,11 +11,11 @@ use Rattle.pm_volume.specs.Refusals.{poisoned_at}
 use Rattle.reply_text.specs.Answer.Answer.{PoisonVolume, Refused}
 use Rattle.reply_text.specs.declared.reply.Why.{Why}
 use Rattle.script_text.specs.Action.Action.{VLoad}
-use Rattle.machine_host.specs.Machine.{Machine}
-use Rattle.machine_host.specs.Commands.{MayLeaveVolume, refusal}
-use Rattle.machine_host.specs.Meaning.{most_refusal}
-use Rattle.machine_host.specs.OnVolume.{volume_answer}
-use Rattle.machine_host.specs.Restarting.{holding}
+use Rattle.machine_model.specs.Machine.{Machine}
+use Rattle.machine_model.specs.Commands.{MayLeaveVolume, refusal}
+use Rattle.machine_model.specs.Meaning.{most_refusal}
+use Rattle.machine_model.specs.OnVolume.{volume_answer}
+use Rattle.machine_model.specs.Restarting.{holding}
 use Rattle.durable.specs.Durable.{HaveLines, IsComplete, IsLineThere}
 use Rattle.durable.proofs.PresenceLemmas.{absent_line}
 use Rattle.durable.proofs.ThereLemmas.{lines-left}

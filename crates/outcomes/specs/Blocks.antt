@@ -8,7 +8,7 @@ use Rattle.nvm_model.specs.Numbered.{is_among}
 use Rattle.nvm_model.specs.Storage.{Block}
 use Rattle.reply_text.specs.Answer.{why_text}
 use Rattle.reply_text.specs.declared.reply.Why.{Why}
-use Rattle.machine_host.specs.Meaning.{most_refusal}
+use Rattle.machine_model.specs.Meaning.{most_refusal}
 
 -- what a read is answered: these bytes, the lowest block that is scarred or has a bad line, or why it is refused
 pub data BlockReply : Type 0 where

@@ -6,7 +6,7 @@ use Rattle.nvm_model.specs.Listing.{file_name, has_file}
 use Rattle.nvm_model.specs.Page.{Page, cell_of}
 use Rattle.nvm_model.specs.Storage.{File}
 use Rattle.reply_text.specs.declared.reply.Why.TheVariants as because
-use Rattle.machine_host.specs.OnPages.{pages_named}
+use Rattle.machine_model.specs.OnPages.{pages_named}
 use Rattle.outcomes.specs.Pages.{PageRead, all_lines_read, is_refused_for, is_reply, line_fits}
 use Rattle.outcomes.specs.Ways.{all_pass}
 

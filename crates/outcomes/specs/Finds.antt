@@ -6,10 +6,10 @@ use Rattle.script_text.specs.Action.Action.{Cut, Restart}
 use Rattle.script_text.specs.Script.{Input}
 use Rattle.script_text.specs.Script.Input.{Asked}
 use Rattle.reply_text.specs.Answer.Answer.{DoneBad}
-use Rattle.machine_host.specs.declared.mode.Mode.TheVariants.{On}
-use Rattle.machine_host.specs.Machine.{Machine}
-use Rattle.machine_host.specs.Run.{Run, Transcript}
-use Rattle.machine_host.specs.Settling.{disarmed}
+use Rattle.machine_model.specs.declared.mode.Mode.TheVariants.{On}
+use Rattle.machine_model.specs.Machine.{Machine}
+use Rattle.machine_model.specs.Run.{Run, Transcript}
+use Rattle.machine_model.specs.Settling.{disarmed}
 use Rattle.durable.specs.Durable.{IsComplete}
 use Rattle.outcomes.specs.Seen.{Seen, answers, asked, may_show}
 use Rattle.outcomes.specs.Stops.{stops}

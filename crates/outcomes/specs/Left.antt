@@ -8,11 +8,11 @@ use Rattle.nvm_model.specs.Storage.{Block, File, Mapping}
 use Rattle.nvm_model.specs.Touched.{persist_spans}
 use Rattle.word_tables.specs.declared.geometry.Geometry.{Geometry}
 use Rattle.script_text.specs.Action.{Action}
-use Rattle.machine_host.specs.Commands.{meaning}
-use Rattle.machine_host.specs.Meaning.{BlocksLeft, FilesLeft, VolumeLeft}
-use Rattle.machine_host.specs.Meaning.BlocksLeft.{Same, Either, Mixed}
-use Rattle.machine_host.specs.Meaning.FilesLeft.{Unchanged, OldOrNew, StoredInPart, SyncedInPart}
-use Rattle.machine_host.specs.Meaning.VolumeLeft.{Kept, PartStored, PartSynced, AllOrNone, PageByPage}
+use Rattle.machine_model.specs.Commands.{meaning}
+use Rattle.machine_model.specs.Meaning.{BlocksLeft, FilesLeft, VolumeLeft}
+use Rattle.machine_model.specs.Meaning.BlocksLeft.{Same, Either, Mixed}
+use Rattle.machine_model.specs.Meaning.FilesLeft.{Unchanged, OldOrNew, StoredInPart, SyncedInPart}
+use Rattle.machine_model.specs.Meaning.VolumeLeft.{Kept, PartStored, PartSynced, AllOrNone, PageByPage}
 use Rattle.outcomes.specs.Files.{FileRead, all_but, each_file, files_fit}
 use Rattle.outcomes.specs.Pages.{PageRead, all_lines_read, line_fits}
 use Rattle.outcomes.specs.Ways.{all_pass, each_passes, groups_pass}

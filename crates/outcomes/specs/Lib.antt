@@ -8,3 +8,5 @@ pub mod Stops
 pub mod Outcome
 pub mod Finds
 pub mod Rows
+pub use Rattle.durable.specs as Durable
+pub use Rattle.machine_model.specs as MachineModel

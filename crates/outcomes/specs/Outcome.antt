@@ -10,10 +10,10 @@ use Rattle.nvm_model.specs.Listing.{AreAlike, file_name}
 use Rattle.nvm_model.specs.Storage.{Block, File, Mapping}
 use Rattle.script_text.specs.Action.{Action}
 use Rattle.reply_text.specs.Answer.Answer.{Bytes}
-use Rattle.machine_host.specs.Commands.{MayLeaveBlocks, MayLeaveFiles, MayLeaveVolume, meaning, refusal}
-use Rattle.machine_host.specs.Machine.{Machine}
-use Rattle.machine_host.specs.OnPages.{pages_named}
-use Rattle.machine_host.specs.Restarting.{holding}
+use Rattle.machine_model.specs.Commands.{MayLeaveBlocks, MayLeaveFiles, MayLeaveVolume, meaning, refusal}
+use Rattle.machine_model.specs.Machine.{Machine}
+use Rattle.machine_model.specs.OnPages.{pages_named}
+use Rattle.machine_model.specs.Restarting.{holding}
 use Rattle.outcomes.specs.Blocks.{BlockRead}
 use Rattle.outcomes.specs.Files.{FileRead}
 use Rattle.outcomes.specs.Pages.{PageRead}

@@ -9,7 +9,7 @@ use Rattle.nvm_model.specs.Cell.Cell.{Bad, Kept}
 use Rattle.nvm_model.specs.Numbered.{is_among}
 use Rattle.reply_text.specs.Answer.{why_text}
 use Rattle.reply_text.specs.declared.reply.Why.{Why}
-use Rattle.machine_host.specs.Meaning.{most_refusal}
+use Rattle.machine_model.specs.Meaning.{most_refusal}
 
 -- what a read is answered: these bytes, the offset of the lowest bad line, or why it is refused
 pub data PageReply : Type 0 where

@@ -2,8 +2,8 @@
 use Rattle.std.specs.Prelude.{◌≡◌, ℕ, Bool, true, false, List, [], ◌∷◌, ◌++◌, codes, replicate}
 use Rattle.reply_text.specs.declared.reply.Why.TheVariants.{Missing, Range}
 use Rattle.script_text.specs.Script.{inputs}
-use Rattle.machine_host.specs.Restarting.{fresh}
-use Rattle.machine_host.specs.Rows.{small, text}
+use Rattle.machine_model.specs.Restarting.{fresh}
+use Rattle.machine_model.specs.WorkedScripts.{small, text}
 use Rattle.outcomes.specs.Blocks.{BlockReply}
 use Rattle.outcomes.specs.Blocks.BlockReply.{Shows as ShowsBlocks}
 use Rattle.outcomes.specs.Finds.{may_find}

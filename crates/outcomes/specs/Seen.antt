@@ -7,7 +7,7 @@ use Rattle.script_text.specs.Script.{Input}
 use Rattle.script_text.specs.Script.Input.{Asked}
 use Rattle.reply_text.specs.Answer.{Answer}
 use Rattle.reply_text.specs.Answer.Answer.{Bytes, PoisonBlock, PoisonFile, PoisonVolume, Refused, Scarred}
-use Rattle.machine_host.specs.Machine.{Machine}
+use Rattle.machine_model.specs.Machine.{Machine}
 use Rattle.outcomes.specs.Pages.{PageRead, PageReply, all_lines_read, is_reply, line_fits}
 use Rattle.outcomes.specs.Pages.PageReply.{Shows, Poison, Refuses}
 use Rattle.outcomes.specs.Blocks.{BlockRead, BlockReply, all_numbers_read, block_fits, is_block_reply}

@@ -4,4 +4,5 @@
 
 mod laws;
 
+pub use durable as durable_laws;
 pub use laws::{what_is_found_may_be_found, what_may_be_shown_is_left, worked_questions};

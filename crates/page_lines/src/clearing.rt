@@ -10,7 +10,7 @@ use crate::Places;
 use line_device::Lines;
 use line_words::{Interruption, clear_line};
 
-/// Makes each of so many lines, from the first on, that is there one of zeros: healthy, not weak and durable, by one
+/// Makes each of a number of lines, from the first on, that exists one of zeros: healthy, not weak and durable, by one
 /// call each.
 pub fn clear_lines<L: Lines, P: Places>(
     dev: &mut L,

@@ -12,9 +12,9 @@ use nvm_base::{LINE, LineNo, Span, lines_of};
 #[derive(Clone, Copy, Debug, PartialEq, Eq)]
 pub enum BadLines {
     All,
-    /// Those of which the span touches some bytes, and not all.
+    /// Lines of which the span touches some bytes, and not all.
     NotCovered,
-    /// Those from this line on.
+    /// Lines from this one on.
     From(u64),
 }
 
@@ -35,7 +35,7 @@ impl BadLines {
     }
 }
 
-/// The number of the lowest line, among those that the span touches and that are there, that is bad.
+/// The number of the lowest line, among those that the span touches and that exist, that is bad.
 pub fn lowest_bad<L: Lines, P: Places>(
     dev: &L,
     places: &P,

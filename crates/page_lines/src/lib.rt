@@ -10,8 +10,6 @@ mod persisting;
 mod places;
 mod putting;
 mod stretch;
-#[cfg(test)]
-mod tests;
 
 pub use clearing::clear_lines;
 pub use finding::{BadLines, lowest_bad};

@@ -13,7 +13,7 @@ use line_device::Lines;
 use line_words::{Interruption, stop_of};
 use nvm_base::{LineNo, Span, lines_of};
 
-/// Makes each line durable that the span touches and that is there, by one call each. A weak one becomes bad, and a bad one is
+/// Makes each line durable that the span touches and that exists, by one call each. A weak one becomes bad, and a bad one is
 /// passed over.
 pub fn persist_lines<L: Lines, P: Places>(
     dev: &mut L,

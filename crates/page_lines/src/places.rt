@@ -23,7 +23,7 @@ pub trait Places {
     }
 }
 
-/// So many lines, each at the line of the device with its own number.
+/// Lines that each lie at the line of the device with its own number.
 #[derive(Clone, Copy, Debug)]
 pub struct Whole {
     pub count: u64,

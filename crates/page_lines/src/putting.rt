@@ -13,7 +13,7 @@ use line_device::Lines;
 use line_words::{Interruption, clear_line, stop_of};
 use nvm_base::{LINE, LineNo, Span, lines_of};
 
-/// Puts bytes at an offset of the storage, in those of its lines that are there. Bad lines are cleared first, and all bytes
+/// Puts bytes at an offset of the storage, in those of its lines that exist. Bad lines are cleared first, and all bytes
 /// of such a line are put.
 pub fn put_lines<L: Lines, P: Places>(
     dev: &mut L,

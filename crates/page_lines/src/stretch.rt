@@ -2,7 +2,7 @@
 ghost use Rattle.std.specs.Prelude.{◌≡◌, ◌+◌, ◌≤◌, ◌^◌};
 ghost use Rattle.std.specs.Option.{unwrap_or};
 
-/// So many lines from one on, each at the line of the device after that of the one before it; or all of them nowhere.
+/// Lines from one on, each at the line of the device after that of the one before it; or all of them nowhere.
 #[derive(Clone, Copy, Debug)]
 pub struct Stretch {
     pub(crate) start: u64,

@@ -41,7 +41,7 @@ impl Model for PageTable {
 }
 
 impl PageTable {
-    /// The table that the words of the page tables' area stand for, where each inode has so many pages, a free one none.
+    /// The table that the words of the page tables' area stand for, where each inode has its number of pages, a free one none.
     pub fn read(
         alloc: Global,
         geo: Geometry,
@@ -58,7 +58,7 @@ impl PageTable {
         Ok(table)
     }
 
-    /// The same, with a pool in which the units of its pages are taken.
+    /// Reads the table, with a pool in which the units of its pages are taken.
     pub fn read_with_pool(
         alloc: Global,
         geo: Geometry,

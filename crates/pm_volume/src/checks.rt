@@ -61,7 +61,7 @@ impl Volume {
     }
 }
 
-/// Whether so many bytes or pages from `start` on are there, and there is at least one.
+/// Whether a number of bytes or pages from `start` on exist, and there is at least one.
 fn check_extent(size: u64, start: u64, len: u64) -> Result<(), VolumeFault>
     ensures refused { Checks volume_says (extent_refusal size start len) result }
     ensures some { OnOk result (1 ≤ len) }

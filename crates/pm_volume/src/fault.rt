@@ -14,7 +14,7 @@ pub enum VolumeFault {
     Length,
     /// A byte of the span has no place in the volume.
     Address,
-    /// This line of metadata is bad, the lowest one.
+    /// Lowest line of metadata that is bad.
     Meta(LineNo),
     /// The line at this offset of the volume, in bytes, is bad.
     Poison(u64),
@@ -27,7 +27,7 @@ pub enum VolumeFault {
 /// Why a volume could not be mounted.
 #[derive(Clone, Copy, Debug, PartialEq, Eq)]
 pub enum MountFault {
-    /// This line of log or presence words is bad.
+    /// Line of log or presence words that is bad.
     Poisoned(LineNo),
     /// The word at this place is the first that is wrong.
     Bad(u64),

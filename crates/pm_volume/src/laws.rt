@@ -10,7 +10,7 @@ ghost use Rattle.pm_volume.specs.Area.{LeavesRanges, volume_ranges};
 ghost use Rattle.pm_volume.specs.Object.{VolumeHolds, VolumeState};
 ghost use Rattle.pm_volume.specs.Refusals.{physical_offset};
 
-/// A device stands for pages, whichever of them are there: those of its marks and histories. So what a contract says of any
+/// A device stands for pages, whichever of them exist: those of its marks and histories. So what a contract says of any
 /// pages that volume and device stand for, it says of some.
 pub fn a_volume_holds_pages()
     ensures { (s : VolumeState) (m : Medium) → VolumeHolds s m (device_pages (volume_line s.geo) m s.present) }

@@ -18,8 +18,6 @@ mod queries;
 mod storing;
 mod switching;
 mod syncing;
-#[cfg(test)]
-mod tests;
 
 pub use area::volume_area;
 pub use fault::{MountFault, VolumeFault};

@@ -9,7 +9,7 @@ use page_lines::Places;
 use std::marker::Model;
 use word_tables::Geometry;
 
-/// The lines of the pages that are there, or of those that are absent.
+/// The lines of the pages that exist, or of those that are absent.
 #[derive(Drop)]
 pub(crate) struct PageLines<'a> {
     geo: Geometry,

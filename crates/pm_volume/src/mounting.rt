@@ -24,7 +24,7 @@ use word_log::{Log, mount_words};
 use word_tables::Geometry;
 
 impl Volume {
-    /// Mounts the volume of a device: replays its log where it is open, and reads which pages are there.
+    /// Mounts the volume of a device: replays its log where it is open, and reads which pages exist.
     pub fn mount<L: Lines>(alloc: Global, dev: &mut L, geo: Geometry) -> Result<Self, MountFault>
         requires valid { IsValid geo }
         requires lines { (L.state dev.old).medium.count ≡ total_lines geo }

@@ -46,7 +46,7 @@ impl Volume {
         &self.ranges
     }
 
-    /// Whether a page is there.
+    /// Whether a page exists.
     pub fn exists(&self, page: u64) -> Result<bool, VolumeFault>
         ensures ok { IfOk result (λ there. slice_get self.now.present page ≡ Some there) }
         ensures refused { IsErr result → (result ≡ Err Range) × (self.now.geo.vpages ≤ page) }

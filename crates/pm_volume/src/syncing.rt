@@ -20,7 +20,7 @@ use nvm_base::Span;
 use page_lines::persist_lines;
 
 impl Volume {
-    /// Makes each line durable that the span, in bytes of the volume, touches and whose page is there. A bad one refuses all of
+    /// Makes each line durable that the span, in bytes of the volume, touches and whose page exists. A bad one refuses all of
     /// it; a weak one becomes bad.
     pub fn sync<L: Lines>(&mut self, dev: &mut L, span: Span) -> Result<(), VolumeFault>
         requires serves { VolumeServes self.old (L.state dev.old).medium }
@@ -47,7 +47,7 @@ impl Volume {
         Ok(())
     }
 
-    /// The same of a span of physical addresses. One that leaves the ranges is refused.
+    /// Syncs a span of physical addresses. One that leaves the ranges is refused.
     pub fn physical_sync<L: Lines>(&mut self, dev: &mut L, span: Span) -> Result<(), VolumeFault>
         requires serves { VolumeServes self.old (L.state dev.old).medium }
         requires settled { IsTrue self.old.settled }

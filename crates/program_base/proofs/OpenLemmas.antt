@@ -15,7 +15,7 @@ use Rattle.line_device.specs.declared.line.LineState.{LineState}
 use Rattle.line_device.specs.declared.line.LineState.TheVariants.{Healthy, Weak, Bad}
 use Rattle.line_device.proofs.PanelLemmas.{arms_nothing-trans, same_orders-trans}
 use Rattle.machine_host.specs.Costs.{Opens, mount_calls, mount_persists}
-use Rattle.machine_host.specs.declared.mode.Mode.TheVariants as modes
+use Rattle.machine_model.specs.declared.mode.Mode.TheVariants as modes
 use Rattle.machine_host.specs.Lines.{bad_metadata}
 use Rattle.machine_host.specs.Machine.{Machine}
 use Rattle.machine_host.specs.Restarting.{reading}

@@ -18,7 +18,7 @@ pub enum Ending {
     Image(u64),
     /// The word at this place is wrong.
     Layout(u64),
-    /// This line of metadata is bad.
+    /// Line of metadata that is bad.
     Meta(u64),
     /// The image or the script could not be read.
     Read,
@@ -56,7 +56,7 @@ impl Ending {
         tell(self.line(alloc), replies)
     }
 
-    /// That line.
+    /// Line that is written at this ending.
     pub fn line(self, alloc: Global) -> Result<Bytes, AllocError>
         ensures { IfOk result (λ line. line.items ≡ ending_text self) }
     {

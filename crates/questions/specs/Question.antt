@@ -1,5 +1,5 @@
 -- What a line of a script asks.
-use Rattle.std.specs.Prelude.{ℕ, List, [], ◌∷◌, map, length, nat_lt, Option, Some, None, option_map, if◌then◌else◌, codes}
+use Rattle.std.specs.Prelude.{◌==◌, ◌+◌, ℕ, List, [], ◌∷◌, map, length, nat_lt, Option, Some, None, option_map, Result, Ok, Err, if◌then◌else◌, codes}
 use Rattle.std.specs.Io.BufRead.{strip_last}
 use Rattle.std.specs.Str.{bytes_eq}
 use Rattle.reply_text.specs.Answer.{Answer}
@@ -7,16 +7,19 @@ use Rattle.script_text.specs.Script.{words_of}
 use Rattle.questions.specs.declared.question.QuestionKind.{QuestionKind}
 use Rattle.questions.specs.declared.question.QuestionKind.TheVariants as kind
 use Rattle.questions.specs.Asked.{answer_asked, part_asked}
+use Rattle.questions.specs.Near.{is_near}
 use Rattle.questions.specs.Parts.{parts_of}
 
--- a line: no question, the start of the reads, a list of outcomes, a table of values, replies that may come of the reads, or a question that is none
+-- a line: no question, the start of the reads, a list of outcomes, a table of values, replies that may come of the reads, a question that
+-- is not spelled right, or one whose reply of that number is none
 pub data QuestionLine : Type 0 where
   Plain : QuestionLine
   Look : QuestionLine
   Lists : QuestionLine
   Tabulates : QuestionLine
   Never : List (Option Answer) → QuestionLine
-  Wrong : QuestionLine
+  Misspelled : QuestionLine
+  NoReply : ℕ → QuestionLine
 
 -- what a line's kind is
 abbrev pub line_of : QuestionKind → QuestionLine
@@ -26,26 +29,30 @@ line_of kind.List = Lists
 line_of kind.Table = Tabulates
 line_of (kind.Never replies) = Never (map (option_map answer_asked) replies.items)
 
--- one reply more before others, where all are there
-abbrev pub with_reply : Option (Option Answer) → Option (List (Option Answer)) → Option (List (Option Answer))
-with_reply None more = None
-with_reply (Some reply) None = None
-with_reply (Some reply) (Some more) = Some (reply ∷ more)
+-- the reply of that number before others, where all are there, and else the number of the first that is not
+abbrev pub with_reply : ℕ → Option (Option Answer) → Result (List (Option Answer)) ℕ → Result (List (Option Answer)) ℕ
+with_reply k None more = Err k
+with_reply k (Some reply) (Err n) = Err n
+with_reply k (Some reply) (Ok more) = Ok (reply ∷ more)
 
--- what parts ask of one read each
-abbrev pub parts_asked : List (List (List ℕ)) → Option (List (Option Answer))
-parts_asked [] = Some []
-parts_asked (part ∷ parts) = with_reply (part_asked part) (parts_asked parts)
+-- what parts ask of one read each, from number k on
+abbrev pub parts_asked : ℕ → List (List (List ℕ)) → Result (List (Option Answer)) ℕ
+parts_asked k [] = Ok []
+parts_asked k (part ∷ parts) = with_reply k (part_asked part) (parts_asked (k + 1) parts)
 
 -- the question of these replies
-abbrev pub never_line : Option (List (Option Answer)) → QuestionLine
-never_line None = Wrong
-never_line (Some replies) = Never replies
+abbrev pub never_line : Result (List (Option Answer)) ℕ → QuestionLine
+never_line (Err k) = NoReply k
+never_line (Ok replies) = Never replies
 
 -- the question, where no word is left
 abbrev pub alone : QuestionLine → List (List ℕ) → QuestionLine
 alone line [] = line
-alone line (word ∷ words) = Wrong
+alone line (word ∷ words) = Misspelled
+
+-- what a comment is that asks nothing as it is spelled
+abbrev pub near_question : List ℕ → List (List ℕ) → QuestionLine
+near_question word words = if is_near word words then Misspelled else Plain
 
 -- what the words of a comment ask
 unfoldable pub comment_question : List (List ℕ) → QuestionLine
@@ -54,12 +61,17 @@ comment_question (word ∷ words) =
     if bytes_eq word (codes "look") then alone Look words
     else (if bytes_eq word (codes "list") then alone Lists words
     else (if bytes_eq word (codes "table") then alone Tabulates words
-    else (if bytes_eq word (codes "never") then never_line (parts_asked (parts_of words)) else Plain)))
+    else (if bytes_eq word (codes "never") then never_line (parts_asked 1 (parts_of words)) else near_question word words)))
+
+-- what the words of a line ask that begins with such a word, where it is no `#` alone
+abbrev pub marked_question : List ℕ → List (List ℕ) → QuestionLine
+marked_question [] words = Plain
+marked_question (c ∷ word) words = if c == 35 then near_question word words else Plain
 
 -- what the words of a line ask: those of a comment behind a `#` alone
 abbrev pub words_question : List (List ℕ) → QuestionLine
 words_question [] = Plain
-words_question (mark ∷ words) = if bytes_eq mark (codes "#") then comment_question words else Plain
+words_question (mark ∷ words) = if bytes_eq mark (codes "#") then comment_question words else marked_question mark words
 
 -- A line of over 65,536 bytes asks nothing. One carriage return at its end is dropped.
 unfoldable pub question_line : List ℕ → QuestionLine

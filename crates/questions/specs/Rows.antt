@@ -3,7 +3,7 @@ use Rattle.std.specs.Prelude.{◌≡◌, [], ◌∷◌, ◌++◌, Some, None, re
 use Rattle.reply_text.specs.Answer.Answer.{Bytes, PoisonBlock, PoisonVolume, PoisonFile, Scarred, Refused}
 use Rattle.reply_text.specs.declared.reply.Why.TheVariants.{Missing, Off}
 use Rattle.questions.specs.Question.{question_line}
-use Rattle.questions.specs.Question.QuestionLine.{Plain, Look, Lists, Tabulates, Never, Wrong}
+use Rattle.questions.specs.Question.QuestionLine.{Plain, Look, Lists, Tabulates, Never, Misspelled, NoReply}
 
 pub record QuestionRows : Type 0 where
   pub bytes_or_any : question_line (codes "# never data 01,00 | _") ≡ Never (Some (Bytes (1 ∷ 0 ∷ [])) ∷ None ∷ [])
@@ -14,31 +14,47 @@ pub record QuestionRows : Type 0 where
   pub no_file : question_line (codes "# never refused missing") ≡ Never (Some (Refused Missing) ∷ [])
   pub several_reads : question_line (codes "#  never _ | refused off |  data ff*3") ≡ Never (None ∷ Some (Refused Off) ∷ Some (Bytes (255 ∷ 255 ∷ 255 ∷ [])) ∷ [])
   pub all_the_bytes : question_line (codes "# never data 07*65536") ≡ Never (Some (Bytes (replicate 65536 7)) ∷ [])
-  pub one_byte_more : question_line (codes "# never data 07*65537") ≡ Wrong
-  pub half_a_byte : question_line (codes "# never data 0 ") ≡ Wrong
-  pub two_datas : question_line (codes "# never data 01 02") ≡ Wrong
-  pub line_of_another_length : question_line (codes "# never poison volume 64 128") ≡ Wrong
-  pub line_without_a_length : question_line (codes "# never poison volume 64") ≡ Wrong
-  pub line_of_a_block_with_a_length : question_line (codes "# never poison block 3 7 64") ≡ Wrong
-  pub line_of_no_file : question_line (codes "# never poison file Log 128 64") ≡ Wrong
+  pub one_byte_more : question_line (codes "# never data 07*65537") ≡ NoReply 1
+  pub half_a_byte : question_line (codes "# never data 0 ") ≡ NoReply 1
+  pub two_datas : question_line (codes "# never data 01 02") ≡ NoReply 1
+  pub line_of_another_length : question_line (codes "# never poison volume 64 128") ≡ NoReply 1
+  pub line_without_a_length : question_line (codes "# never poison volume 64") ≡ NoReply 1
+  pub line_of_a_block_with_a_length : question_line (codes "# never poison block 3 7 64") ≡ NoReply 1
+  pub line_of_no_file : question_line (codes "# never poison file Log 128 64") ≡ NoReply 1
   pub largest_number : question_line (codes "# never scarred 4294967295") ≡ Never (Some (Scarred 4294967295) ∷ [])
-  pub larger_number : question_line (codes "# never scarred 4294967296") ≡ Wrong
-  pub refusal_of_no_word : question_line (codes "# never refused") ≡ Wrong
-  pub refusal_of_another_word : question_line (codes "# never refused device") ≡ Wrong
-  pub reply_of_no_read : question_line (codes "# never ok") ≡ Wrong
-  pub no_reply : question_line (codes "# never") ≡ Wrong
-  pub two_empty_parts : question_line (codes "# never |") ≡ Wrong
-  pub last_part_empty : question_line (codes "# never data 00 |") ≡ Wrong
-  pub bar_within_a_word : question_line (codes "# never _|_") ≡ Wrong
-  pub any_reply_twice : question_line (codes "# never _ _") ≡ Wrong
+  pub larger_number : question_line (codes "# never scarred 4294967296") ≡ NoReply 1
+  pub refusal_of_no_word : question_line (codes "# never refused") ≡ NoReply 1
+  pub refusal_of_another_word : question_line (codes "# never refused device") ≡ NoReply 1
+  pub reply_of_no_read : question_line (codes "# never ok") ≡ NoReply 1
+  pub no_reply : question_line (codes "# never") ≡ NoReply 1
+  pub two_empty_parts : question_line (codes "# never |") ≡ NoReply 1
+  pub last_part_empty : question_line (codes "# never data 00 |") ≡ NoReply 2
+  pub bar_within_a_word : question_line (codes "# never _|_") ≡ NoReply 1
+  pub any_reply_twice : question_line (codes "# never _ _") ≡ NoReply 1
   pub look : question_line (codes "# look") ≡ Look
   pub look_with_a_return : question_line (9 ∷ codes "# look" ++ 13 ∷ []) ≡ Look
-  pub look_and_a_word : question_line (codes "# look now") ≡ Wrong
+  pub look_and_a_word : question_line (codes "# look now") ≡ Misspelled
   pub longer_word : question_line (codes "# looks") ≡ Plain
-  pub look_in_one_word : question_line (codes "#look") ≡ Plain
+  pub look_in_one_word : question_line (codes "#look") ≡ Misspelled
+  pub look_in_upper_case : question_line (codes "# Look ") ≡ Misspelled
+  pub look_at_both : question_line (codes "# Look at both") ≡ Plain
+  pub look_in_one_word_and_more : question_line (codes "#look closely") ≡ Plain
+  pub two_marks : question_line (codes "## look") ≡ Plain
+  pub never_in_one_word : question_line (codes "#never data 00") ≡ Misspelled
+  pub never_in_upper_case : question_line (codes "# NEVER Refused missing") ≡ Misspelled
+  pub never_with_a_bar : question_line (codes "#Never what | ever") ≡ Misspelled
+  pub never_any : question_line (codes "#never _") ≡ Misspelled
+  pub may_the_power_go : question_line (codes "# May the power go") ≡ Plain
+  pub never_mind : question_line (codes "# Never mind") ≡ Plain
+  pub never_mind_in_lower_case : question_line (codes "# never mind") ≡ NoReply 1
+  pub second_reply_of_no_read : question_line (codes "# never _ | ok | data") ≡ NoReply 2
+  pub kept_for_later : question_line (codes "# idle") ≡ Misspelled
+  pub kept_with_replies : question_line (codes "# only data 00") ≡ Misspelled
+  pub from_a_number : question_line (codes "# from 3") ≡ Misspelled
+  pub from_something_else : question_line (codes "# from the start") ≡ Plain
   pub list : question_line (codes "# list") ≡ Lists
   pub table : question_line (codes "# table") ≡ Tabulates
-  pub list_and_a_number : question_line (codes "# list 3") ≡ Wrong
+  pub list_and_a_number : question_line (codes "# list 3") ≡ Misspelled
   pub mark_alone : question_line (codes "#") ≡ Plain
   pub other_comment : question_line (codes "# the record comes first") ≡ Plain
   pub command : question_line (codes "vload 0 64") ≡ Plain

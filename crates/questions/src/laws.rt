@@ -7,7 +7,7 @@ ghost use Rattle.questions.specs.Printed.{MayBeAsked};
 ghost use Rattle.questions.specs.Question.{question_line};
 ghost use Rattle.questions.specs.Question.QuestionLine.{Plain};
 
-/// What is printed of a read may be asked about as it is.
+/// A printed reply of a read may be asked about as it is.
 pub fn what_is_printed_may_be_asked()
     ensures { (answer : Answer) → MayBeAsked answer → reply_asked (words_of (answer_text answer)) ≡ Some answer }
 {}

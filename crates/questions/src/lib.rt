@@ -2,6 +2,7 @@
 #![tactic(auto)]
 
 mod laws;
+mod near;
 mod never;
 mod parts;
 mod poison;
@@ -10,8 +11,6 @@ mod reading;
 mod replies;
 mod reply;
 mod rows;
-#[cfg(test)]
-mod tests;
 mod whys;
 mod words;
 

@@ -1,5 +1,5 @@
 // What is asked of each read.
-ghost use Rattle.std.specs.Prelude.{◌≡◌};
+ghost use Rattle.std.specs.Prelude.{◌≡◌, ◌+◌, IfErr, IfOk, length};
 ghost use Rattle.script_text.specs.Script.{words_of};
 ghost use Rattle.questions.specs.Asked.{is_any, part_asked};
 ghost use Rattle.questions.specs.Parts.{part_of, parts_of};
@@ -8,24 +8,38 @@ ghost use Rattle.questions.specs.Reading.{ReadsPart, ReadsReplies};
 
 use crate::parts::{after_bar, only_word};
 use crate::replies::read_reply;
+use crate::reply::ReplyFault;
 use crate::{AskedReply, QuestionFault, Replies};
 use std::alloc::Global;
 
 // Replies between bars.
 pub(crate) fn read_replies(alloc: Global, words: &[u8]) -> Result<Replies, QuestionFault>
-    ensures { ReadsReplies (parts_asked (parts_of (words_of words.now))) result }
+    ensures { ReadsReplies (parts_asked 1 (parts_of (words_of words.now))) result }
 {
     let mut replies = Replies::new(alloc);
     let mut next = Some(words);
     while let Some(part) = next {
-        replies.push(read_part(alloc, part)?)?;
+        let number = next_number(&replies)?;
+        match read_part(alloc, part) {
+            Ok(reply) => replies.push(reply)?,
+            Err(ReplyFault::Syntax) => return Err(QuestionFault::Reply(number)),
+            Err(ReplyFault::Memory) => return Err(QuestionFault::Memory),
+        }
         next = after_bar(part);
     }
     Ok(replies)
 }
 
+// The number of the reply behind these. No memory holds more of them than there are numbers.
+fn next_number(replies: &Replies) -> Result<u64, QuestionFault>
+    ensures number { IfOk result (λ number. number ≡ length replies.now.items + 1) }
+    ensures cause { IfErr result (λ e. e ≡ QuestionFault.Memory) }
+{
+    replies.len().checked_add(1).ok_or(QuestionFault::Memory)
+}
+
 // Any reply, or one.
-fn read_part(alloc: Global, words: &[u8]) -> Result<Option<AskedReply>, QuestionFault>
+fn read_part(alloc: Global, words: &[u8]) -> Result<Option<AskedReply>, ReplyFault>
     ensures { ReadsPart (part_asked (part_of (words_of words.now))) result }
 {
     if is_any(words) {

@@ -20,10 +20,13 @@ pub enum QuestionKind {
     Never(Replies),
 }
 
-/// Why a line's question can't be told.
+/// Why a line's question is not taken.
 #[derive(Clone, Copy, Debug, PartialEq, Eq)]
 pub enum QuestionFault {
-    Syntax,
+    /// It is not spelled right.
+    Spelling,
+    /// The reply of that number, from 1 on, is none of a read.
+    Reply(u64),
     Memory,
 }
 

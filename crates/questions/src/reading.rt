@@ -2,9 +2,10 @@
 ghost use Rattle.std.specs.Prelude.{◌≡◌, ◌≢◌, ◌≤◌, IfErr, length};
 ghost use Rattle.std.specs.Io.BufRead.{strip_last};
 ghost use Rattle.script_text.specs.Script.{words_of};
-ghost use Rattle.questions.specs.Question.{alone, comment_question, line_of, question_line, words_question};
+ghost use Rattle.questions.specs.Question.{alone, comment_question, line_of, near_question, question_line, words_question};
 ghost use Rattle.questions.specs.Reading.{AsksOfReads, BeginsWithNever, Reads};
 
+use crate::near::is_near;
 use crate::never::read_replies;
 use crate::words::next_word;
 use crate::{QuestionFault, QuestionKind};
@@ -37,8 +38,14 @@ fn read_words(alloc: Global, text: &[u8]) -> Result<QuestionKind, QuestionFault>
     ensures line { Reads (words_question (words_of text.now)) result }
     ensures memory { IfErr result (λ e. e ≡ QuestionFault.Memory → AsksOfReads (words_of text.now)) }
 {
-    match next_word(text) {
-        Some((b"#", words)) => read_comment(alloc, words),
+    let Some((mark, words)) = next_word(text) else {
+        return Ok(QuestionKind::Plain);
+    };
+    if mark == b"#".as_slice() {
+        return read_comment(alloc, words);
+    }
+    match mark {
+        [b'#', word @ ..] => near_question(word, words),
         _ => Ok(QuestionKind::Plain),
     }
 }
@@ -60,6 +67,18 @@ fn read_comment(alloc: Global, words: &[u8]) -> Result<QuestionKind, QuestionFau
     } else if word == b"never".as_slice() {
         Ok(QuestionKind::Never(read_replies(alloc, rest)?))
     } else {
+        near_question(word, rest)
+    }
+}
+
+// A comment that asks nothing as it is spelled.
+fn near_question(word: &[u8], words: &[u8]) -> Result<QuestionKind, QuestionFault>
+    ensures line { Reads (near_question word.now (words_of words.now)) result }
+    ensures memory { IfErr result (λ e. e ≢ QuestionFault.Memory) }
+{
+    if is_near(word, words) {
+        Err(QuestionFault::Spelling)
+    } else {
         Ok(QuestionKind::Plain)
     }
 }
@@ -72,6 +91,6 @@ fn alone(kind: QuestionKind, words: &[u8]) -> Result<QuestionKind, QuestionFault
     if next_word(words).is_none() {
         Ok(kind)
     } else {
-        Err(QuestionFault::Syntax)
+        Err(QuestionFault::Spelling)
     }
 }

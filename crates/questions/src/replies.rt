@@ -5,18 +5,19 @@ ghost use Rattle.questions.specs.Asked.{answer_asked, data_asked, refused_asked,
 ghost use Rattle.questions.specs.Parts.{part_of};
 ghost use Rattle.questions.specs.Reading.{ReadsReply};
 
+use crate::AskedReply;
 use crate::parts::{next_of_part, only_word};
 use crate::poison::read_poison;
+use crate::reply::ReplyFault;
 use crate::whys::read_why;
-use crate::{AskedReply, QuestionFault};
 use nvm_base::{MOST, TextFault, read_bytes, read_number};
 use std::alloc::Global;
 
-pub(crate) fn read_reply(alloc: Global, words: &[u8]) -> Result<AskedReply, QuestionFault>
+pub(crate) fn read_reply(alloc: Global, words: &[u8]) -> Result<AskedReply, ReplyFault>
     ensures { ReadsReply (reply_asked (part_of (words_of words.now))) result }
 {
     let Some((word, rest)) = next_of_part(words) else {
-        return Err(QuestionFault::Syntax);
+        return Err(ReplyFault::Syntax);
     };
     if word == b"data".as_slice() {
         return read_data(alloc, rest);
@@ -30,20 +31,20 @@ pub(crate) fn read_reply(alloc: Global, words: &[u8]) -> Result<AskedReply, Ques
     } else {
         None
     };
-    reply.ok_or(QuestionFault::Syntax)
+    reply.ok_or(ReplyFault::Syntax)
 }
 
 // DATA.
-fn read_data(alloc: Global, words: &[u8]) -> Result<AskedReply, QuestionFault>
+fn read_data(alloc: Global, words: &[u8]) -> Result<AskedReply, ReplyFault>
     ensures { ReadsReply (data_asked (part_of (words_of words.now))) result }
 {
     let Some(text) = only_word(words) else {
-        return Err(QuestionFault::Syntax);
+        return Err(ReplyFault::Syntax);
     };
     match read_bytes(alloc, text, MOST) {
         Ok(bytes) => Ok(AskedReply::Bytes(bytes)),
-        Err(TextFault::Bad | TextFault::TooLong) => Err(QuestionFault::Syntax),
-        Err(TextFault::Memory) => Err(QuestionFault::Memory),
+        Err(TextFault::Bad | TextFault::TooLong) => Err(ReplyFault::Syntax),
+        Err(TextFault::Memory) => Err(ReplyFault::Memory),
     }
 }
 

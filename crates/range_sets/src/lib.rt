@@ -8,6 +8,3 @@ mod walk;
 pub use faults::first_overlap;
 pub use set::{RangeFault, RangeSet};
 pub use walk::total_of;
-
-#[cfg(test)]
-mod tests;

@@ -104,7 +104,7 @@ impl RangeSet {
         walk::offset_of_span(self.ranges.as_slice(), span)
     }
 
-    /// Whether each range is made of whole lines of a device of so many.
+    /// Whether each range is made of whole lines of a device of a number of.
     pub fn fits(&self, lines: u64) -> bool
         ensures fits { result ≡ fits self.now lines }
         ensures set { IsRangeSet self.now }

@@ -8,8 +8,6 @@
 mod block;
 mod region;
 mod room;
-#[cfg(test)]
-mod tests;
 
 pub use region::Region;
 // A crate above can hold a region in a struct only if the types of its fields can be named.

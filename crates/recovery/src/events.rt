@@ -24,7 +24,7 @@ pub fn find_events<L: Lines>(
         → FilesStand files.now.journal.geo (L.state dev.now).medium files.now.journal.tables all
         → weak_file_lines all ≤ events.spare) }
 {
-    let mut events = scrub::events_of(alloc, dev, files)?;
-    events.reserve(scrub::weak_in_files(dev, files.journal()))?;
+    let mut events = marked_lines::events_of(alloc, dev, files)?;
+    events.reserve(marked_lines::weak_in_files(dev, files.journal()))?;
     Ok(events)
 }

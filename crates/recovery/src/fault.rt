@@ -8,7 +8,7 @@ use word_log::LogFault;
 /// Why a device could not be mounted.
 #[derive(Clone, Copy, Debug, PartialEq, Eq)]
 pub enum MountFault {
-    /// This line of metadata is bad, the lowest one.
+    /// Lowest line of metadata that is bad.
     Meta(LineNo),
     /// The word at this place is the first that is wrong, or begins the lowest weak line of metadata.
     Layout(u64),

@@ -29,7 +29,7 @@ pub fn mounts_again()
     ensures waited { (old new : Medium) → IsMountable old → Waits old new → GoesOn old new }
 {}
 
-/// What is found of small devices: none of a fresh one, and of others what was changed.
+/// Findings of small devices: none of a fresh one, and of others what was changed.
 pub fn findings_of_small_devices()
     ensures fresh { first_finding (small_device nowhere nowhere (superblock_word smallest)) ≡ None }
     ensures word { first_finding (small_device nowhere nowhere (superblock_but 3 1)) ≡ Some (wrong_word 3) }
@@ -46,7 +46,7 @@ pub fn findings_of_small_devices()
     ensures both { first_finding (small_device nowhere nowhere (with_at (superblock_but 144 74) 152 2)) ≡ Some (wrong_word 152) }
 {}
 
-/// A first line that is the superblock of some sizes tells them, and nothing is found of a device of these sizes before
+/// A first line that is the superblock of some sizes has them, and nothing is found of a device of these sizes before
 /// its log. Where nothing is found, it is one.
 pub fn superblocks_are_found()
     ensures told { (geo : Geometry) (m : Medium) → IsSound m → 1 ≤ m.count → m.is_bad 0 ≡ false → HasSuperblock geo m → IsValid geo

@@ -16,8 +16,6 @@ mod metadata;
 mod mounting;
 mod replaying;
 mod superblock;
-#[cfg(test)]
-mod tests;
 
 use block_device::Blocks;
 use error_events::Events;

@@ -17,7 +17,7 @@ use word_tables::{
     MOST_VPAGES, WORD_BYTES,
 };
 
-/// The sizes that the superblock tells, where it is as it has to be.
+/// The sizes that the superblock has, where it is as it has to be.
 pub fn read_superblock<L: Lines>(dev: &mut L) -> Result<Geometry, MountFault>
     requires some { 1 ≤ (L.state dev.old).medium.count }
     requires on { IsTrue (L.state dev.old).panel.power }

@@ -7,8 +7,6 @@ mod files;
 mod printing;
 mod ranges;
 mod reply;
-#[cfg(test)]
-mod tests;
 
 pub use data::print_data;
 pub use printing::print;

@@ -40,7 +40,7 @@ pub enum Reply {
     Done,
     /// A restart is done. So many lines of storage are bad.
     DoneBad(u64),
-    /// Where a volume lies: ranges of physical addresses, one behind the other.
+    /// Where a volume lies: ranges of physical addresses, one after the other.
     Ranges(Spans),
     /// Files: the name of each, and how many pages it has.
     Files(FileList),
@@ -48,15 +48,15 @@ pub enum Reply {
     No,
     /// The handle of a new mapping.
     Handle(u64),
-    /// The oldest event that was not told yet.
+    /// The oldest event that was not taken yet.
     Happened(Event),
-    /// All events were told.
+    /// All events were taken.
     NoEvent,
     /// Offsets of a file's bad lines.
     BadLines(Words),
     /// The value of an attribute.
     Attribute(u64),
-    /// This block was made unreadable.
+    /// Block that was made unreadable.
     Scarred(u64),
     /// In this block that line is bad.
     PoisonBlock(u64, u64),
@@ -72,6 +72,6 @@ pub enum Reply {
     /// A mount ran through and found this line of metadata bad, the lowest one.
     Stopped(u64),
     Refused(Why),
-    /// This line of metadata is bad.
+    /// Line of metadata that is bad.
     RefusedMeta(u64),
 }

@@ -4,6 +4,3 @@ pub mod Script
 pub mod Streaming
 pub mod StreamSteps
 pub mod Parsing
-pub mod Rows
-pub mod MappedRows
-pub mod FlushRows

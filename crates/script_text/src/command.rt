@@ -3,7 +3,7 @@ use nvm_base::{Bytes, Kind, Name, Span, Spans};
 
 /// A command of a script. Blocks, and pages of the volume or of a file, are numbered and counted; offsets and lengths are
 /// in bytes of the volume, of a file or from a mapping's start, addresses in bytes of the device.
-#[derive(Debug, Drop)]
+#[derive(Drop)]
 pub enum Command {
     BRead {
         block: u64,
@@ -65,7 +65,7 @@ pub enum Command {
     VExists {
         page: u64,
     },
-    /// A file of that name, of so many holes.
+    /// A file of that name, of a number of holes.
     Create {
         name: Name,
         pages: u64,
@@ -94,13 +94,13 @@ pub enum Command {
         offset: u64,
         bytes: Bytes,
     },
-    /// The bytes are there wholly or not at all, wherever the power goes.
+    /// The bytes are written wholly or not at all, wherever the power goes.
     FAtomic {
         name: Name,
         offset: u64,
         bytes: Bytes,
     },
-    /// As `FAtomic`, of several ranges at once, whose bytes follow each other.
+    /// Atomic write of several ranges at once, whose bytes follow each other.
     FMulti {
         name: Name,
         ranges: Spans,
@@ -141,17 +141,17 @@ pub enum Command {
         offset: u64,
         len: u64,
     },
-    /// The same of several spans.
+    /// Flush of several spans.
     Flush {
         handle: u64,
         spans: Spans,
     },
-    /// As `Flush`, and a second look at the lines.
+    /// Flush, and a second look at the lines.
     FlushVerify {
         handle: u64,
         spans: Spans,
     },
-    /// As `Flush`, to the last domain of persistence.
+    /// Flush to the last domain of persistence.
     DeepFlush {
         handle: u64,
         spans: Spans,
@@ -178,7 +178,7 @@ pub enum Command {
         name: Name,
         offset: u64,
     },
-    /// That line of the metadata goes bad.
+    /// Makes that line of the metadata bad.
     PoisonMeta {
         line: u64,
     },
@@ -187,7 +187,7 @@ pub enum Command {
         name: Name,
         offset: u64,
     },
-    /// As `WeakenFile`, of a byte of the volume.
+    /// Makes the line weak that has this byte of the volume.
     WeakenVolume {
         offset: u64,
     },
@@ -196,7 +196,7 @@ pub enum Command {
         name: Name,
         offset: u64,
     },
-    /// As `ClearFile`, of a byte of the volume.
+    /// Makes the bad line healthy that has this byte of the volume.
     ClearVolume {
         offset: u64,
     },
@@ -213,11 +213,11 @@ pub enum Command {
     },
     /// A mount of the device with its power left on.
     Recover,
-    /// What the attribute of that name tells. Any word is a name here.
+    /// What the attribute of that name is. Any word is a name here.
     Attr {
         name: Bytes,
     },
-    /// So many of the oldest dirty lines are written back.
+    /// Writes back this number of the oldest dirty lines.
     Evict {
         lines: u64,
     },

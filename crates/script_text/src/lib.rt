@@ -15,16 +15,12 @@ mod piece;
 mod plain;
 mod power;
 mod ranges;
-mod rows;
 mod spans;
 mod streaming;
-#[cfg(test)]
-mod tests;
 mod words;
 mod writes;
 
 pub use command::Command;
 pub use next_line::{InputFault, NextLine};
 pub use parsing::{LineFault, parse};
-pub use rows::{worked_flush_lines, worked_lines, worked_mapped_lines};
 pub use streaming::LineReader;

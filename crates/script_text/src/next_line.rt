@@ -15,6 +15,6 @@ pub enum NextLine {
 pub enum InputFault {
     /// The source failed.
     Failed,
-    /// So many bytes were taken that this is no script.
+    /// Source of which 2^30 bytes were taken without an end: no script.
     TooLarge,
 }

@@ -15,7 +15,7 @@ use std::alloc::Global;
 #[derive(Clone, Copy, Debug, PartialEq, Eq)]
 pub enum LineFault {
     Syntax,
-    /// It has more than `MOST` bytes.
+    /// Line of more than `MOST` bytes.
     TooLong,
     Memory,
 }

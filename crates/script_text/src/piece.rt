@@ -49,7 +49,7 @@ impl Piece {
         &self.bytes.as_slice()[self.at..self.end]
     }
 
-    /// Drops so many of the bytes.
+    /// Drops a number of the bytes.
     pub(crate) fn skip(&mut self, n: usize)
         requires { n ≤ length self.old }
         ensures { self.new ≡ drop n self.old }
@@ -57,7 +57,7 @@ impl Piece {
         self.at += n;
     }
 
-    /// Asks the source for more, in place of what is left, and says how many bytes it gave: none at its end.
+    /// Asks the source for more, in place of what is left, and returns how many bytes it gave: none at its end.
     pub(crate) fn fill<T: Source>(&mut self, source: &mut T) -> Result<usize, ReadFailed>
         ensures fills { FillsPiece (T.left source.old) (T.left source.new) self.new result }
         ensures later { T.count source.old ≤ T.count source.new }

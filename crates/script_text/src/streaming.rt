@@ -71,7 +71,7 @@ impl LineReader {
         self.line.as_slice()
     }
 
-    /// Whether a whole line waits, so that the next one is there without the source.
+    /// Whether a whole line waits, so that the next one needs no source.
     pub fn has_line(&self) -> bool
         ensures { IsFalse result ↔ IsUnbroken self.now.waiting }
     {

@@ -1,5 +1,5 @@
 -- A line of the volume that is changed, and what volume and device hold then.
-use Rattle.std.proofs.Common.{◌≡◌, ◌⊎◌, inl, inr, ℕ, true, Some, List, refl, sym, subst, ◌∙◌}
+use Rattle.std.proofs.Common.{◌≡◌, ℕ, true, Some, List, sym, subst, ◌∙◌}
 use Rattle.line_device.specs.Medium.{Medium, WritesBack}
 use Rattle.word_tables.specs.Layout.{volume_line, IsVolumeLine}
 use Rattle.nvm_model.specs.Cell.{Cell}

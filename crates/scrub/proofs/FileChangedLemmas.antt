@@ -7,30 +7,26 @@ use Rattle.word_tables.specs.Layout.{file_pages, meta_lines, HasLine}
 use Rattle.nvm_model.specs.Cell.{Cell}
 use Rattle.nvm_model.specs.Files.{on_pages}
 use Rattle.nvm_model.specs.Listing.{change_file, file_name}
-use Rattle.nvm_model.specs.Page.{Page, change_line}
+use Rattle.nvm_model.specs.Page.{change_line}
 use Rattle.nvm_model.specs.Storage.{File}
 use Rattle.nvm_model.proofs.KeptLemmas.{line_kept-write_back}
 use Rattle.nvm_model.proofs.MediaLemmas.{presence_of-change}
-use Rattle.page_lines.specs.Placed.{AreApart}
 use Rattle.page_lines.specs.Turns.{WritesBackOthers}
 use Rattle.page_lines.proofs.OthersLemmas.{others-wider}
 use Rattle.file_journal.specs.Object.{JournalServes, JournalState}
-use Rattle.file_journal.specs.Standing.{EachReadsFiles, FilesStand}
+use Rattle.file_journal.specs.Standing.{FilesStand}
 use Rattle.file_journal.specs.Tables.{AreTables}
 use Rattle.file_journal.proofs.FileLineLemmas.{page_line_apart, page_line_behind}
 use Rattle.file_journal.proofs.ServesLemmas.{journal-kept}
 use Rattle.file_journal.proofs.StandingLemmas.{files-kept}
 use Rattle.file_pages.specs.Object.{IsFileAt, KeepsMarks, file_place, pages_there, units_of}
 use Rattle.file_pages.proofs.ListedLemmas.{files-turned}
-use Rattle.file_pages.proofs.PlaceLemmas.{PagesOn, line_at, located, place_in, places_apart, units_own}
+use Rattle.file_pages.proofs.PlaceLemmas.{line_at, located, place_in, units_own}
+use Rattle.marked_lines.proofs.ApartLemmas.{file_apart}
 use Rattle.scrub.specs.Lines.{IsFileLine}
 use Rattle.scrub.specs.Others.{WritesBackBut}
 use Rattle.scrub.proofs.LineLemmas.{ChangesLine, stand-changed}
 use Rattle.scrub.proofs.OthersLemmas.{but-wider, strong-but}
-
--- the lines of a file's pages are on the device, apart
-pub file_apart : (s : JournalState) (m : Medium) (inode : ℕ) → AreTables s.geo.fpages s.tables → inode < 64 → JournalServes s m → AreApart (file_place s inode) m.count
-file_apart s m inode are low serves = places_apart s.geo (units_of s.tables inode) (units_own s.geo.fpages s.tables are inode low) m.count serves.count
 
 module _ (s : JournalState) (old new : Medium) (inode n line : ℕ) (valid : IsValid s.geo) (are : AreTables s.geo.fpages s.tables) (low : inode < 64) (serves : JournalServes s old)
     (at : file_place s inode n ≡ Some line) where

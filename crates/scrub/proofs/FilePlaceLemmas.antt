@@ -1,5 +1,5 @@
 -- What is said of the line of a byte of a file.
-use Rattle.std.proofs.Common.{◌≡◌, ℕ, ◌*◌, ◌/◌, ◌<◌, ◌≤◌, if◌then◌else◌, Option, Some, None, Result, Ok, Err, List, length, refl, sym, subst, arith}
+use Rattle.std.proofs.Common.{◌≡◌, ℕ, ◌*◌, ◌/◌, ◌<◌, ◌≤◌, if◌then◌else◌, Some, None, Result, Ok, Err, List, length, refl, sym, subst, arith}
 use Rattle.std.proofs.lemmas.Bool.{le-leb}
 use Rattle.nvm_base.specs.declared.units.LineNo.{LineNo}
 use Rattle.line_device.specs.Medium.{Medium}
@@ -14,8 +14,9 @@ use Rattle.file_pages.proofs.PassLemmas.{length-pages_on, pages_on}
 use Rattle.file_pages.proofs.PlaceLemmas.{PagesOn, line_at, located}
 use Rattle.scrub.specs.declared.fault.PlaceFault.TheVariants as place
 use Rattle.scrub.specs.declared.fault.ScrubFault.{ScrubFault}
-use Rattle.scrub.specs.Refusals.{ScrubRefusal, cell_refusal, file_clear_refusal, file_refusal, mark_refusal, place_says, scrub_says}
-use Rattle.scrub.specs.Refusals.ScrubRefusal.{Range}
+use Rattle.marked_lines.specs.Refusals.{cell_refusal, file_clear_refusal, file_refusal, mark_refusal}
+use Rattle.scrub.specs.Refusals.{place_says, scrub_says}
+use Rattle.marked_lines.specs.Refusals.ScrubRefusal.{Range}
 use Rattle.scrub.proofs.PlacedLemmas.{clear_there, told_nothing, told_there}
 
 module _ (s : JournalState) (m : Medium) (inode offset : ℕ) (are : AreTables s.geo.fpages s.tables) (all : List File) (file : File) (is : IsFileAt s m inode all file) where

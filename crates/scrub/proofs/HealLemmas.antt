@@ -6,7 +6,8 @@ use Rattle.nvm_model.specs.Cell.{clear_cell}
 use Rattle.page_lines.specs.Turns.{WritesBackOthers}
 use Rattle.page_lines.proofs.ClearLemmas.{others-clear}
 use Rattle.scrub.specs.declared.fault.ScrubFault.{ScrubFault}
-use Rattle.scrub.specs.Refusals.{mark_refusal, scrub_says}
+use Rattle.marked_lines.specs.Refusals.{mark_refusal}
+use Rattle.scrub.specs.Refusals.{scrub_says}
 use Rattle.scrub.proofs.LineLemmas.{ChangesLine, changes-cleared}
 
 -- what is cleared was bad

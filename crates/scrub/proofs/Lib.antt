@@ -1,13 +1,10 @@
 pub mod OthersLemmas
-pub mod CountLemmas
+pub mod PageCountLemmas
 pub mod LineLemmas
 pub mod HealLemmas
 pub mod PlacedLemmas
 pub mod ChangedLemmas
-pub mod FoundLemmas
-pub mod EventLemmas
 pub mod FilePlaceLemmas
 pub mod FileChangedLemmas
 pub mod UnitLemmas
 pub mod LostLemmas
-pub mod FileCountLemmas

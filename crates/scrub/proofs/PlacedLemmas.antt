@@ -4,8 +4,7 @@ use Rattle.std.proofs.lemmas.Bool.{lt-leb}
 use Rattle.std.specs.Result.{IsErrAnd}
 use Rattle.nvm_base.specs.declared.units.LineNo.{LineNo}
 use Rattle.line_device.specs.Medium.{Medium}
-use Rattle.line_words.specs.Told.{Answers, Checks, Told, refusal_of}
-use Rattle.line_words.specs.Told.Told.{Starves}
+use Rattle.line_words.specs.Told.{Answers, Checks, refusal_of}
 use Rattle.word_tables.specs.declared.geometry.Geometry.{Geometry}
 use Rattle.word_tables.specs.Bounds.{IsValid}
 use Rattle.word_tables.specs.Layout.{total_lines, volume_line}
@@ -18,25 +17,10 @@ use Rattle.pm_volume.proofs.PlaceLemmas.{place_of, placed_line, unplaced, volume
 use Rattle.scrub.specs.declared.fault.PlaceFault.{PlaceFault}
 use Rattle.scrub.specs.declared.fault.PlaceFault.TheVariants as place_fault
 use Rattle.scrub.specs.declared.fault.ScrubFault.{ScrubFault}
-use Rattle.scrub.specs.Refusals.{ScrubRefusal, byte_refusal, cell_refusal, healing_refusal, line_refusal, mark_refusal, place_says, scrub_says}
-use Rattle.scrub.specs.Refusals.ScrubRefusal.{Range, Nothing, NotPoisoned}
+use Rattle.marked_lines.specs.Refusals.{ScrubRefusal, byte_refusal, cell_refusal, healing_refusal, line_refusal, mark_refusal}
+use Rattle.scrub.specs.Refusals.{place_says, scrub_says}
+use Rattle.marked_lines.specs.Refusals.ScrubRefusal.{Range}
 use Rattle.scrub.proofs.LineLemmas.{cell_here, no_cell}
-
--- a call that looks for its place first is refused as that search is
-pub told-ok : {T U E R : Type 0} (says : E → Told R) (why : Option R) (x : T) (y : U) → Checks says why (Ok x) → Answers says why (Ok y)
-told-ok says None x y told = tt
-told-ok says (Some w) x y told = absurd told
-
-pub told-err : (T : Type 0) {U E R : Type 0} (says : E → Told R) (why : Option R) (fault : E) (r : Result U E) → Checks {T = T} says why (Err fault) → IsErrAnd r (λ f. f ≡ fault) → Answers says why r
-told-err T says why fault (Ok x) told same = absurd same
-told-err T says None fault (Err f) told same = absurd told
-told-err T says (Some w) fault (Err f) told same = ap (λ e. refusal_of (says e)) same ∙ told
-
--- and one that then wants memory isn't refused
-pub told-starved : {T U E R : Type 0} (says : E → Told R) (why : Option R) (x : T) (r : Result U E) → Checks says why (Ok x) → IsErrAnd r (λ f. says f ≡ Starves) → Answers says why r
-told-starved says why x (Ok y) told starves = absurd starves
-told-starved says None x (Err f) told starves = ap refusal_of starves
-told-starved says (Some w) x (Err f) told starves = absurd told
 
 -- the lines of the volume's pages have places, and no others have
 pub volume_located : (geo : Geometry) (there : List Bool) → Located (volume_place geo there true) (volume_line geo) there

@@ -21,9 +21,10 @@ use Rattle.block_device.proofs.AreaLemmas.{unit_within}
 use Rattle.block_device.proofs.BlockLemmas.{nth-map_read}
 use Rattle.block_device.proofs.BufferLemmas.{is_none-line_read}
 use Rattle.scrub.specs.declared.fault.PlaceFault.TheVariants as fault
-use Rattle.scrub.specs.Refusals.{ScrubRefusal, block_refusal, place_says, unit_refusal}
-use Rattle.scrub.specs.Refusals.ScrubRefusal.{Range}
-use Rattle.scrub.proofs.CountLemmas.{count-cons}
+use Rattle.marked_lines.specs.Refusals.{ScrubRefusal, block_refusal, unit_refusal}
+use Rattle.scrub.specs.Refusals.{place_says}
+use Rattle.marked_lines.specs.Refusals.ScrubRefusal.{Range}
+use Rattle.marked_lines.proofs.CountLemmas.{count-cons}
 
 -- a line of a block is one of the blocks' area, which is on the device
 pub unit_line : (geo : Geometry) (unit line n : ℕ) → IsValid geo → unit < geo.blocks + 64 → line < 8 → n ≡ block_line geo unit + line → HasLine geo blocks n × (n < 118016)

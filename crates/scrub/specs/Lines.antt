@@ -1,11 +1,8 @@
--- Which line of the device is a block's, or a file's, and which lines of a file are bad.
-use Rattle.std.specs.Prelude.{◌≡◌, ◌+◌, ℕ, List, Some}
-use Rattle.std.specs.List.{filter, range_with_len}
-use Rattle.line_device.specs.Medium.{Medium}
+-- Which line of the device is a block's, or a file's.
+use Rattle.std.specs.Prelude.{◌≡◌, ◌+◌, ℕ, Some}
 use Rattle.word_tables.specs.Layout.{block_line, file_pages, HasLine}
 use Rattle.block_map.specs.States.{IsAt}
 use Rattle.block_device.specs.Object.{BlocksState}
-use Rattle.page_lines.specs.Sought.{is_bad_at}
 use Rattle.file_journal.specs.Object.{JournalState}
 use Rattle.file_pages.specs.Object.{file_place}
 
@@ -19,7 +16,3 @@ pub record IsLineOf (s : BlocksState) (block line n : ℕ) : Type 0 where
 pub record IsFileLine (s : JournalState) (inode line n : ℕ) : Type 0 where
   pub at : file_place s inode line ≡ Some n
   pub of : HasLine s.geo file_pages n
-
--- the numbers of the bad ones of so many lines of a file, from the first on, rising
-abbrev pub bad_from : JournalState → Medium → ℕ → ℕ → ℕ → List ℕ
-bad_from s m inode first count = filter (λ n. is_bad_at m (file_place s inode n)) (range_with_len first count)

@@ -15,7 +15,8 @@ ghost use Rattle.file_pages.specs.Object.{IsFileAt, KeepsMarks, PagesServe};
 ghost use Rattle.pm_volume.specs.Images.{EachReadsPages};
 ghost use Rattle.pm_volume.specs.Object.{VolumeHolds, VolumeServes};
 ghost use Rattle.scrub.specs.Lines.{IsFileLine};
-ghost use Rattle.scrub.specs.Refusals.{clear_refusal, file_clear_refusal, mark_refusal, scrub_says};
+ghost use Rattle.marked_lines.specs.Refusals.{clear_refusal, file_clear_refusal, mark_refusal};
+ghost use Rattle.scrub.specs.Refusals.{scrub_says};
 
 use crate::ScrubFault;
 use crate::places::{line_in_file, line_of_byte};

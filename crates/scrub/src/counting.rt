@@ -1,4 +1,4 @@
-// How many lines are bad, or have another mark. None of this makes a counted call.
+// How many lines are bad. None of this makes a counted call.
 ghost use Rattle.std.specs.Prelude.{◌≡◌, ◌+◌, ◌<◌, ◌≤◌, List, count_by};
 ghost use Rattle.std.specs.List.{range_with_len};
 ghost use Rattle.nvm_model.specs.Blocks.{bad_block_lines, bad_lines_in, nth};
@@ -9,16 +9,16 @@ ghost use Rattle.block_device.specs.Object.{BlocksServe, blocks_of};
 ghost use Rattle.file_journal.specs.Object.{JournalServes};
 ghost use Rattle.file_journal.specs.Standing.{FilesStand};
 ghost use Rattle.pm_volume.specs.Object.{VolumeHolds, VolumeServes};
-ghost use Rattle.scrub.specs.Counting.{bad_in_page, has_mark, nth_page};
+ghost use Rattle.marked_lines.specs.Counting.{bad_in_page, has_mark, nth_page};
 
-use crate::{Mark, bad_in_files};
 use block_device::Blocks;
 use file_journal::Journal;
 use line_device::Lines;
+use marked_lines::{Mark, bad_in_files, count_among};
 use nvm_base::{BLOCK, LINE, PAGE};
 use pm_volume::Volume;
 
-/// How many lines of all that is there are bad.
+/// How many lines of all that exists are bad.
 pub fn bad_count<L: Lines>(dev: &L, blocks: &Blocks, volume: &Volume, journal: &Journal) -> u64
     requires blocks { BlocksServe blocks.now (L.state dev.now).medium }
     requires volume { VolumeServes volume.now (L.state dev.now).medium }
@@ -56,7 +56,7 @@ fn count_in_block<L: Lines>(dev: &L, blocks: &Blocks, block: u64) -> u64
     count_among(dev, Mark::Bad, line.0, BLOCK / LINE)
 }
 
-/// How many lines of the pages that are there are bad: the lines of an absent page hold nothing that counts.
+/// How many lines of the pages that exist are bad: the lines of an absent page hold nothing that counts.
 pub fn bad_in_volume<L: Lines>(dev: &L, volume: &Volume) -> u64
     requires serves { VolumeServes volume.now (L.state dev.now).medium }
     ensures count { (pages : List Page) → VolumeHolds volume.now (L.state dev.now).medium pages → result ≡ bad_lines pages }
@@ -80,19 +80,4 @@ fn count_in_page<L: Lines>(dev: &L, volume: &Volume, page: u64) -> u64
         return 0;
     };
     count_among(dev, Mark::Bad, line.0, PAGE / LINE)
-}
-
-// How many of so many lines of the device, from the first on, have a mark.
-pub(crate) fn count_among<L: Lines>(dev: &L, mark: Mark, first: u64, count: u64) -> u64
-    requires { first + count ≤ (L.state dev.now).medium.count }
-    ensures count { result ≡ count_by (has_mark mark (L.state dev.now).medium) (range_with_len first count) }
-    ensures few { result ≤ count }
-{
-    let mut marked = 0;
-    for k in 0..count {
-        if mark.is_on(dev, first + k) {
-            marked += 1;
-        }
-    }
-    marked
 }

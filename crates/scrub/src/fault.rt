@@ -38,17 +38,6 @@ pub enum ScrubFault {
     PowerLost,
 }
 
-/// Why bad lines were not told.
-#[derive(Clone, Copy, Debug, PartialEq, Eq)]
-pub enum LinesFault {
-    /// The file has no such bytes.
-    Range,
-    /// No bytes.
-    Length,
-    /// There is no memory.
-    Memory,
-}
-
 impl From<PlaceFault> for WeakenFault {
     ghost use Rattle.scrub.specs.Refusals.{place_says, weaken_says};
 
@@ -97,16 +86,5 @@ impl From<Interruption> for ScrubFault {
             Interruption::Failed => ScrubFault::Device,
             Interruption::PowerLost => ScrubFault::PowerLost,
         }
-    }
-}
-
-impl From<AllocError> for LinesFault {
-    ghost use Rattle.line_words.specs.Told.Told.{Starves};
-    ghost use Rattle.scrub.specs.Spans.{lines_says};
-
-    ghost from_gives = { λ _ fault. lines_says fault ≡ Starves };
-
-    fn from(_fault: AllocError) -> LinesFault {
-        LinesFault::Memory
     }
 }

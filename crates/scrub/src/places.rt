@@ -11,7 +11,8 @@ ghost use Rattle.file_journal.specs.Tables.{AreTables};
 ghost use Rattle.file_pages.specs.Object.{IsFileAt, file_place};
 ghost use Rattle.pm_volume.specs.Object.{VolumeHolds, volume_place};
 ghost use Rattle.scrub.specs.Lines.{IsLineOf};
-ghost use Rattle.scrub.specs.Refusals.{block_refusal, file_refusal, place_refusal, place_says};
+ghost use Rattle.marked_lines.specs.Refusals.{block_refusal, file_refusal, place_refusal};
+ghost use Rattle.scrub.specs.Refusals.{place_says};
 
 use crate::PlaceFault;
 use block_device::Blocks;

@@ -14,7 +14,8 @@ ghost use Rattle.file_pages.specs.Object.{IsFileAt, KeepsMarks, PagesServe};
 ghost use Rattle.pm_volume.specs.Object.{VolumeHolds, VolumeServes};
 ghost use Rattle.scrub.specs.Lines.{IsFileLine, IsLineOf};
 ghost use Rattle.scrub.specs.Others.{WritesBackBut};
-ghost use Rattle.scrub.specs.Refusals.{block_refusal, file_refusal, place_refusal, place_says};
+ghost use Rattle.marked_lines.specs.Refusals.{block_refusal, file_refusal, place_refusal};
+ghost use Rattle.scrub.specs.Refusals.{place_says};
 
 use crate::PlaceFault;
 use crate::places::{line_in_file, line_of_block, line_of_byte};

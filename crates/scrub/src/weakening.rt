@@ -14,7 +14,8 @@ ghost use Rattle.pm_volume.specs.Object.{VolumeHolds, VolumeServes};
 ghost use Rattle.scrub.specs.declared.fault.WeakenFault.TheVariants.{Memory};
 ghost use Rattle.scrub.specs.Lines.{IsFileLine};
 ghost use Rattle.scrub.specs.Others.{WritesBackBut};
-ghost use Rattle.scrub.specs.Refusals.{file_refusal, place_refusal, weaken_says};
+ghost use Rattle.marked_lines.specs.Refusals.{file_refusal, place_refusal};
+ghost use Rattle.scrub.specs.Refusals.{weaken_says};
 
 use crate::WeakenFault;
 use crate::places::{line_in_file, line_of_byte};

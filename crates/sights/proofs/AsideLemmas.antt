@@ -5,14 +5,14 @@ use Rattle.nvm_base.specs.declared.units.Span.{Span}
 use Rattle.nvm_model.specs.Mappings.{is_shared, mapping_of}
 use Rattle.nvm_model.specs.Storage.{Mapping}
 use Rattle.reply_text.specs.Answer.Answer.{Done, Handle}
-use Rattle.machine_host.specs.declared.look.Look.{Look}
-use Rattle.machine_host.specs.Machine.{Machine}
-use Rattle.machine_host.specs.Machine.Fate.{Gives, Works}
-use Rattle.machine_host.specs.Meaning.{Meaning}
-use Rattle.machine_host.specs.OnFlushes.{all_moved, flush_file, flush_through, nothing_done}
-use Rattle.machine_host.specs.OnMappings.{load_through, read_copy, store_through, with_mapping, write_copy}
-use Rattle.machine_host.specs.OnPages.{fread, fwrite}
-use Rattle.outcomes.specs.Stops.{led_to}
+use Rattle.asked_reads.specs.MachineModel.declared.look.Look.{Look}
+use Rattle.asked_reads.specs.MachineModel.Machine.{Machine}
+use Rattle.asked_reads.specs.MachineModel.Machine.Fate.{Gives, Works}
+use Rattle.asked_reads.specs.MachineModel.Meaning.{Meaning}
+use Rattle.asked_reads.specs.MachineModel.OnFlushes.{all_moved, flush_file, flush_through, nothing_done}
+use Rattle.asked_reads.specs.MachineModel.OnMappings.{load_through, read_copy, store_through, with_mapping, write_copy}
+use Rattle.asked_reads.specs.MachineModel.OnPages.{fread, fwrite}
+use Rattle.asked_reads.specs.Outcomes.Stops.{led_to}
 
 -- blocks and volume are as they were
 pub record IsAside (h to : Machine) : Type 0 where

@@ -8,17 +8,17 @@ use Rattle.block_sights.proofs.LostLemmas.{block_lost}
 use Rattle.block_sights.proofs.WrittenLemmas.{made_seen, ranges_seen, written_seen}
 use Rattle.script_text.specs.Action.{Action}
 use Rattle.script_text.specs.Action.Action.{BRead, BWrite, BAtomic, BMulti, BDiscard, BDiscardIf, BExists, BScar, VLoad, VStore, VSync, VRanges, VPSync, VDiscard, VDiscardIf, VExists, Create, Delete, Rename, Resize, ListFiles, FRead, FWrite, FAtomic, FMulti, FDiscard, FSync, Map, Unmap, Load, Store, Sync, Flush, FlushVerify, DeepFlush, NextEvent, CheckFile, PoisonBlock, PoisonVolume, PoisonFile, PoisonMeta, WeakenFile, WeakenVolume, ClearFile, ClearVolume, Cut, CutIn, FailIn, Restart, Recover, Attr, Evict}
-use Rattle.scrub.specs.Refusals.{block_refusal, unit_refusal}
-use Rattle.scrub.specs.Refusals.ScrubRefusal.{Range}
-use Rattle.machine_host.specs.declared.look.Look.TheVariants.{Once, Again}
-use Rattle.machine_host.specs.Machine.{Machine}
-use Rattle.machine_host.specs.Commands.{meaning, refusal}
-use Rattle.machine_host.specs.OnBlocks.{blocks_from}
-use Rattle.machine_host.specs.OnFlushes.{flush_through}
-use Rattle.machine_host.specs.OnMappings.{load_through, store_through}
-use Rattle.machine_host.specs.OnMedia.{line_answer}
-use Rattle.outcomes.specs.Stops.{led_to}
-use Rattle.durable.specs.Durable.{HasEightLines, HaveEightLines}
+use Rattle.marked_lines.specs.Refusals.{block_refusal, unit_refusal}
+use Rattle.marked_lines.specs.Refusals.ScrubRefusal.{Range}
+use Rattle.asked_reads.specs.MachineModel.declared.look.Look.TheVariants.{Once, Again}
+use Rattle.asked_reads.specs.MachineModel.Machine.{Machine}
+use Rattle.asked_reads.specs.MachineModel.Commands.{meaning, refusal}
+use Rattle.asked_reads.specs.MachineModel.OnBlocks.{blocks_from}
+use Rattle.asked_reads.specs.MachineModel.OnFlushes.{flush_through}
+use Rattle.asked_reads.specs.MachineModel.OnMappings.{load_through, store_through}
+use Rattle.asked_reads.specs.MachineModel.OnMedia.{line_answer}
+use Rattle.asked_reads.specs.Outcomes.Stops.{led_to}
+use Rattle.asked_reads.specs.Durable.Durable.{HasEightLines, HaveEightLines}
 use Rattle.sights.specs.ChangingBlocks.{block_changed}
 use Rattle.sights.proofs.AsideLemmas.{IsAside, by_mapping, flush_aside, load_aside, map_aside, store_aside}
 use Rattle.sights.proofs.VolumeChangeLemmas.{none_mapped, places_right}

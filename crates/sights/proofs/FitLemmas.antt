@@ -4,7 +4,7 @@ use Rattle.std.specs.List.{list_any}
 use Rattle.nvm_model.specs.Cell.{Cell}
 use Rattle.nvm_model.specs.Cell.Cell.{Bad, Kept}
 use Rattle.nvm_model.specs.Page.{is_bad_cell}
-use Rattle.outcomes.specs.Pages.{PageRead, all_agree, all_allow_bad, all_allow_good, words_fit}
+use Rattle.asked_reads.specs.Outcomes.Pages.{PageRead, all_agree, all_allow_bad, all_allow_good, words_fit}
 use Rattle.line_histories.specs.declared.log.Stored.{Stored}
 use Rattle.line_histories.specs.Held.{HasHistory}
 use Rattle.line_histories.specs.Log.{history_in}

@@ -13,16 +13,16 @@ use Rattle.pm_volume.specs.Refusals.{physical_offset}
 use Rattle.block_sights.specs.Sights.{sight}
 use Rattle.script_text.specs.Action.{Action}
 use Rattle.script_text.specs.Action.Action.{BRead, BWrite, BAtomic, BMulti, BDiscard, BDiscardIf, BExists, BScar, VLoad, VStore, VSync, VRanges, VPSync, VDiscard, VDiscardIf, VExists, Create, Delete, Rename, Resize, ListFiles, FRead, FWrite, FAtomic, FMulti, FDiscard, FSync, Map, Unmap, Load, Store, Sync, Flush, FlushVerify, DeepFlush, NextEvent, CheckFile, PoisonBlock, PoisonVolume, PoisonFile, PoisonMeta, WeakenFile, WeakenVolume, ClearFile, ClearVolume, Cut, CutIn, FailIn, Restart, Recover, Attr, Evict}
-use Rattle.machine_host.specs.Machine.{Machine}
-use Rattle.machine_host.specs.Commands.{meaning, refusal}
-use Rattle.machine_host.specs.OnBlocks.{blocks_from}
-use Rattle.machine_host.specs.OnVolume.{part_synced_at, persist_at}
-use Rattle.durable.specs.Durable.{HaveEightLines, HaveLines}
-use Rattle.outcomes.specs.Blocks.{block_fits}
-use Rattle.outcomes.specs.Left.{blocks_pass, stored_passes, volume_passes}
-use Rattle.outcomes.specs.Pages.{line_fits}
-use Rattle.outcomes.specs.Stops.{led_to}
-use Rattle.outcomes.specs.Ways.{groups_pass}
+use Rattle.asked_reads.specs.MachineModel.Machine.{Machine}
+use Rattle.asked_reads.specs.MachineModel.Commands.{meaning, refusal}
+use Rattle.asked_reads.specs.MachineModel.OnBlocks.{blocks_from}
+use Rattle.asked_reads.specs.MachineModel.OnVolume.{part_synced_at, persist_at}
+use Rattle.asked_reads.specs.Durable.Durable.{HaveEightLines, HaveLines}
+use Rattle.asked_reads.specs.Outcomes.Blocks.{block_fits}
+use Rattle.asked_reads.specs.Outcomes.Left.{blocks_pass, stored_passes, volume_passes}
+use Rattle.asked_reads.specs.Outcomes.Pages.{line_fits}
+use Rattle.asked_reads.specs.Outcomes.Stops.{led_to}
+use Rattle.asked_reads.specs.Outcomes.Ways.{groups_pass}
 use Rattle.asked_reads.specs.declared.question.Question.{Question}
 use Rattle.sights.specs.declared.line_seen.LineSeen.{LineSeen}
 use Rattle.sights.specs.declared.block_seen.BlockSeen.{BlockSeen}

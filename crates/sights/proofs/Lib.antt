@@ -8,3 +8,6 @@ pub mod InsideLemmas
 pub mod SizeLemmas
 pub mod FitLemmas
 mod ReachLemmas
+pub use Rattle.asked_reads.proofs.Durable
+pub use Rattle.asked_reads.proofs.MachineModel
+pub use Rattle.asked_reads.proofs.Outcomes

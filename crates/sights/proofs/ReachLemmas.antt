@@ -5,8 +5,8 @@ use Rattle.std.specs.List.{list_all, range_with_len}
 use Rattle.std.proofs.lemmas.Bool.{and_from}
 use Rattle.std.proofs.lemmas.Bool.Decides.{nat_tests}
 use Rattle.nvm_model.specs.Numbered.{is_among}
-use Rattle.outcomes.specs.Pages.{agrees}
-use Rattle.outcomes.specs.Pages.PageReply.{Shows}
+use Rattle.asked_reads.specs.Outcomes.Pages.{agrees}
+use Rattle.asked_reads.specs.Outcomes.Pages.PageReply.{Shows}
 
 -- what is before the first, or past the last, is not among them
 not_among : (first count i : ℕ) → (i < first) ⊎ (first + count ≤ i) → is_among first count i ≡ false

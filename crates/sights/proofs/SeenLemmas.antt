@@ -11,8 +11,8 @@ use Rattle.nvm_model.specs.Page.Page.{Absent, Present}
 use Rattle.nvm_model.proofs.MediaLemmas.{cell_of-change}
 use Rattle.nvm_model.proofs.NumberedLemmas.{slice_get-map_from}
 use Rattle.nvm_model.proofs.PageLemmas.{cell_of-fill, cell_of-persist, cell_of-put}
-use Rattle.durable.specs.Durable.{HaveLines, IsLineThere}
-use Rattle.durable.proofs.PresenceLemmas.{has_lines, line_in, page_present, zero_at}
+use Rattle.asked_reads.specs.Durable.Durable.{HaveLines, IsLineThere}
+use Rattle.asked_reads.proofs.Durable.PresenceLemmas.{has_lines, line_in, page_present, zero_at}
 use Rattle.sights.specs.Seeing.{or_zeros, seen}
 
 line_there : (o : Option Cell) → IsLineThere o → (cell : Cell) × (o ≡ Some cell)

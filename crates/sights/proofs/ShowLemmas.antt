@@ -11,9 +11,9 @@ use Rattle.nvm_model.specs.Storage.Block.{Absent, Data, Scarred}
 use Rattle.block_sights.specs.Sights.{Sight, obstacle_seen, sight, sight_of_lines}
 use Rattle.block_sights.specs.Sights.Sight.{Whole, Scar, BadLine}
 use Rattle.block_sights.proofs.SeenLemmas.{seen_bytes}
-use Rattle.outcomes.specs.Blocks.{BlockRead, BlockReply, allows, block_fits, has_bytes, is_bad_line, is_scar}
-use Rattle.outcomes.specs.Blocks.BlockReply.{Shows, Scar as AsksScar, BadLine as AsksBadLine, Refuses}
-use Rattle.outcomes.specs.Pages.{PageRead, line_fits}
+use Rattle.asked_reads.specs.Outcomes.Blocks.{BlockRead, BlockReply, allows, block_fits, has_bytes, is_bad_line, is_scar}
+use Rattle.asked_reads.specs.Outcomes.Blocks.BlockReply.{Shows, Scar as AsksScar, BadLine as AsksBadLine, Refuses}
+use Rattle.asked_reads.specs.Outcomes.Pages.{PageRead, line_fits}
 use Rattle.asked_reads.specs.declared.question.Question.{Question}
 use Rattle.sights.specs.declared.line_seen.LineSeen.{LineSeen}
 use Rattle.sights.specs.declared.block_seen.BlockSeen.{BlockSeen}

@@ -2,12 +2,12 @@
 use Rattle.std.proofs.Common.{◌≡◌, [], ◌∷◌, refl}
 use Rattle.script_text.specs.Action.{Action}
 use Rattle.script_text.specs.Action.Action.{BRead, BWrite, BAtomic, BMulti, BDiscard, BDiscardIf, BExists, BScar, VLoad, VStore, VSync, VRanges, VPSync, VDiscard, VDiscardIf, VExists, Create, Delete, Rename, Resize, ListFiles, FRead, FWrite, FAtomic, FMulti, FDiscard, FSync, Map, Unmap, Load, Store, Sync, Flush, FlushVerify, DeepFlush, NextEvent, CheckFile, PoisonBlock, PoisonVolume, PoisonFile, PoisonMeta, WeakenFile, WeakenVolume, ClearFile, ClearVolume, Cut, CutIn, FailIn, Restart, Recover, Attr, Evict}
-use Rattle.machine_host.specs.declared.look.Look.TheVariants.{Once, Again}
-use Rattle.machine_host.specs.Machine.{Machine}
-use Rattle.machine_host.specs.Commands.{meaning}
-use Rattle.machine_host.specs.OnFlushes.{flush_through}
-use Rattle.machine_host.specs.OnMappings.{load_through, store_through}
-use Rattle.outcomes.specs.Stops.{led_to}
+use Rattle.asked_reads.specs.MachineModel.declared.look.Look.TheVariants.{Once, Again}
+use Rattle.asked_reads.specs.MachineModel.Machine.{Machine}
+use Rattle.asked_reads.specs.MachineModel.Commands.{meaning}
+use Rattle.asked_reads.specs.MachineModel.OnFlushes.{flush_through}
+use Rattle.asked_reads.specs.MachineModel.OnMappings.{load_through, store_through}
+use Rattle.asked_reads.specs.Outcomes.Stops.{led_to}
 use Rattle.sights.proofs.AsideLemmas.{IsAside, by_mapping, flush_aside, load_aside, map_aside, store_aside}
 
 geometry_of : (h to : Machine) → IsAside h to → to.geometry ≡ h.geometry

@@ -6,18 +6,18 @@ use Rattle.nvm_model.specs.Page.{cell_of}
 use Rattle.pm_volume.specs.Refusals.{physical_offset}
 use Rattle.script_text.specs.Action.{Action}
 use Rattle.script_text.specs.Action.Action.{BRead, BWrite, BAtomic, BMulti, BDiscard, BDiscardIf, BExists, BScar, VLoad, VStore, VSync, VRanges, VPSync, VDiscard, VDiscardIf, VExists, Create, Delete, Rename, Resize, ListFiles, FRead, FWrite, FAtomic, FMulti, FDiscard, FSync, Map, Unmap, Load, Store, Sync, Flush, FlushVerify, DeepFlush, NextEvent, CheckFile, PoisonBlock, PoisonVolume, PoisonFile, PoisonMeta, WeakenFile, WeakenVolume, ClearFile, ClearVolume, Cut, CutIn, FailIn, Restart, Recover, Attr, Evict}
-use Rattle.scrub.specs.Refusals.{cell_refusal, clear_refusal, line_refusal, place_refusal}
-use Rattle.scrub.specs.Refusals.ScrubRefusal.{Range}
-use Rattle.machine_host.specs.declared.look.Look.TheVariants.{Once, Again}
-use Rattle.machine_host.specs.Machine.{Machine}
-use Rattle.machine_host.specs.Commands.{meaning, refusal}
-use Rattle.machine_host.specs.Meaning.{metadata_refusal, mode_refusal}
-use Rattle.machine_host.specs.OnFlushes.{flush_through}
-use Rattle.machine_host.specs.OnMappings.{load_through, store_through}
-use Rattle.machine_host.specs.OnMedia.{line_answer}
-use Rattle.machine_host.specs.OnVolume.{persist_at}
-use Rattle.outcomes.specs.Stops.{led_to}
-use Rattle.durable.specs.Durable.{HaveLines}
+use Rattle.marked_lines.specs.Refusals.{cell_refusal, clear_refusal, line_refusal, place_refusal}
+use Rattle.marked_lines.specs.Refusals.ScrubRefusal.{Range}
+use Rattle.asked_reads.specs.MachineModel.declared.look.Look.TheVariants.{Once, Again}
+use Rattle.asked_reads.specs.MachineModel.Machine.{Machine}
+use Rattle.asked_reads.specs.MachineModel.Commands.{meaning, refusal}
+use Rattle.asked_reads.specs.MachineModel.Meaning.{metadata_refusal, mode_refusal}
+use Rattle.asked_reads.specs.MachineModel.OnFlushes.{flush_through}
+use Rattle.asked_reads.specs.MachineModel.OnMappings.{load_through, store_through}
+use Rattle.asked_reads.specs.MachineModel.OnMedia.{line_answer}
+use Rattle.asked_reads.specs.MachineModel.OnVolume.{persist_at}
+use Rattle.asked_reads.specs.Outcomes.Stops.{led_to}
+use Rattle.asked_reads.specs.Durable.Durable.{HaveLines}
 use Rattle.sights.specs.Changing.{line_changed, persisted_at, volume_change}
 use Rattle.sights.specs.Seeing.{seen}
 use Rattle.sights.proofs.AsideLemmas.{IsAside, by_mapping, flush_aside, load_aside, map_aside, store_aside}

@@ -4,7 +4,7 @@ use Rattle.block_sights.specs.Sights.{Sight, sight_lost, sight_made, sight_writt
 use Rattle.block_sights.specs.Sights.Sight.{Scar}
 use Rattle.script_text.specs.Action.{Action}
 use Rattle.script_text.specs.Action.Action.{BRead, BWrite, BAtomic, BMulti, BDiscard, BDiscardIf, BExists, BScar, VLoad, VStore, VSync, VRanges, VPSync, VDiscard, VDiscardIf, VExists, Create, Delete, Rename, Resize, ListFiles, FRead, FWrite, FAtomic, FMulti, FDiscard, FSync, Map, Unmap, Load, Store, Sync, Flush, FlushVerify, DeepFlush, NextEvent, CheckFile, PoisonBlock, PoisonVolume, PoisonFile, PoisonMeta, WeakenFile, WeakenVolume, ClearFile, ClearVolume, Cut, CutIn, FailIn, Restart, Recover, Attr, Evict}
-use Rattle.machine_host.specs.OnBlocks.{blocks_from}
+use Rattle.asked_reads.specs.MachineModel.OnBlocks.{blocks_from}
 
 -- block b once the command is done
 abbrev pub block_changed : Action → ℕ → Sight → Sight

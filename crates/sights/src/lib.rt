@@ -12,6 +12,8 @@ mod replies;
 mod unit;
 mod way;
 
+pub use asked_reads as reads_asked;
+pub use asked_reads::durable_laws;
 pub use block_seen::BlockSeen;
 pub use block_told::{print_sight, same_block};
 pub use line_seen::LineSeen;

@@ -3,8 +3,8 @@ ghost use Rattle.std.specs.Prelude.{◌≡◌, ◌+◌, ◌-◌, ◌*◌, ◌<�
 ghost use Rattle.std.specs.Int.{byte_at};
 ghost use Rattle.nvm_model.specs.Cell.{touches};
 ghost use Rattle.nvm_model.specs.Numbered.{is_among};
-ghost use Rattle.outcomes.specs.Pages.{agrees, all_agree, all_allow_bad, all_allow_good, allows_bad, allows_good};
-ghost use Rattle.outcomes.specs.Pages.PageReply.{Shows};
+ghost use Rattle.asked_reads.specs.Outcomes.Pages.{agrees, all_agree, all_allow_bad, all_allow_good, allows_bad, allows_good};
+ghost use Rattle.asked_reads.specs.Outcomes.Pages.PageReply.{Shows};
 ghost use Rattle.asked_reads.specs.Reads.{page_reply, pages_asked};
 ghost use Rattle.asked_reads.specs.Fitting.{WordFits, WordsFit, cell_fits};
 
@@ -141,7 +141,7 @@ pub fn touches(start: u64, len: u64, n: u64) -> bool
     start / LINE <= n && (LINE * n < start || LINE * n - start < len)
 }
 
-/// Whether i is one of so many numbers.
+/// Whether i is one of a number of numbers.
 pub fn is_among(start: u64, count: u64, i: u64) -> bool
     ensures { result ≡ is_among start count i }
 {

@@ -2,9 +2,9 @@
 ghost use Rattle.std.specs.Prelude.{◌≡◌};
 ghost use Rattle.std.specs.List.{list_all};
 ghost use Rattle.word_tables.specs.Bounds.{IsValid};
-ghost use Rattle.machine_host.specs.Meaning.{most_refusal};
-ghost use Rattle.outcomes.specs.Blocks.{is_block_reply};
-ghost use Rattle.outcomes.specs.Pages.{is_given, is_reply};
+ghost use Rattle.asked_reads.specs.MachineModel.Meaning.{most_refusal};
+ghost use Rattle.asked_reads.specs.Outcomes.Blocks.{is_block_reply};
+ghost use Rattle.asked_reads.specs.Outcomes.Pages.{is_given, is_reply};
 ghost use Rattle.asked_reads.specs.Asking.{is_given_by_some, may_be_file_reply, may_be_replies};
 ghost use Rattle.asked_reads.specs.Reads.{block_read, blocks_asked, file_reads_asked, page_read, page_reply, pages_asked};
 
@@ -73,7 +73,7 @@ fn is_given(read: &PageRead) -> bool
     }
 }
 
-/// Whether a read may have its reply on some storage of so many bytes.
+/// Whether a read may have its reply on some storage of a number of bytes.
 pub fn is_reply_of_bytes(read: &PageRead, size: u64) -> bool
     ensures { result ≡ is_reply size (page_read read.now) }
 {

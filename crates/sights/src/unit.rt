@@ -16,10 +16,10 @@ use word_tables::Geometry;
 
 /// A line or a block that a question looks at, with all that it may be once the power is back.
 pub trait Unit: Drop {
-    /// It may be as the question asks.
+    /// Whether the unit may be as the question asks.
     ghost may_fit: { Asked → Self → Bool };
 
-    /// The same unit once a command is done.
+    /// Unit once a command is done.
     ghost once_done: { Sizes → Action → Self → Self };
 
     /// Which units of the volume are discarded together.

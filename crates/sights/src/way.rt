@@ -16,7 +16,7 @@ pub enum Way {
 }
 
 impl Way {
-    /// That of the volume's lines, None where the command changes none of them, or makes no call of the device.
+    /// Way of the volume's lines, None where the command changes none of them, or makes no call of the device.
     pub fn of_lines(command: &Command) -> Option<Way>
         ensures { result ≡ lines_way (action_of command.now) }
     {
@@ -75,7 +75,7 @@ impl Way {
         }
     }
 
-    /// That of the blocks.
+    /// Way of the blocks.
     pub fn of_blocks(command: &Command) -> Option<Way>
         ensures { result ≡ blocks_way (action_of command.now) }
     {

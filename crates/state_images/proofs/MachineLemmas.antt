@@ -13,11 +13,11 @@ use Rattle.script_text.specs.Script.Input.{Asked}
 use Rattle.reply_text.specs.Answer.{Answer}
 use Rattle.reply_text.specs.Answer.Answer.{DoneBad}
 use Rattle.line_device.specs.Panel.{Image, Start}
-use Rattle.machine_host.specs.Commands.{MayLeaveBlocks, fate, spending}
-use Rattle.machine_host.specs.Machine.Fate.{Restarts}
-use Rattle.machine_host.specs.Run.{Hears, Takes, Transcript, with_start}
-use Rattle.machine_host.specs.Machine.{Fate, Machine, bad_of}
-use Rattle.machine_host.specs.Restarting.{MayLeaveStorage, RestartMayLeave, holding, mounted_answer, read_with, reading, restarted}
+use Rattle.machine_model.specs.Commands.{MayLeaveBlocks, fate, spending}
+use Rattle.machine_model.specs.Machine.Fate.{Restarts}
+use Rattle.machine_model.specs.Run.{Hears, Takes, Transcript, with_start}
+use Rattle.machine_model.specs.Machine.{Fate, Machine, bad_of}
+use Rattle.machine_model.specs.Restarting.{MayLeaveStorage, RestartMayLeave, holding, mounted_answer, read_with, reading, restarted}
 use Rattle.state_images.specs.Images.{image_of}
 use Rattle.state_images.specs.Left.{MayBeLeft, back_with}
 use Rattle.state_images.specs.Storable.{IsStorable}

@@ -2,9 +2,9 @@
 use Rattle.std.specs.Prelude.{List}
 use Rattle.nvm_model.specs.Page.{Page}
 use Rattle.nvm_model.specs.Storage.{Block, File}
-use Rattle.machine_host.specs.Commands.{MayLeaveBlocks, MayLeaveFiles, MayLeaveVolume}
-use Rattle.machine_host.specs.Machine.{Machine}
-use Rattle.machine_host.specs.Restarting.{holding}
+use Rattle.machine_model.specs.Commands.{MayLeaveBlocks, MayLeaveFiles, MayLeaveVolume}
+use Rattle.machine_model.specs.Machine.{Machine}
+use Rattle.machine_model.specs.Restarting.{holding}
 use Rattle.state_images.specs.Keeping.{FilesSurvive, PagesSurvive}
 
 -- Blocks, pages and files as the interrupted action may have left them, with one value kept of each word.

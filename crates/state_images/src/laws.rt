@@ -16,11 +16,11 @@ ghost use Rattle.file_journal.specs.Standing.{files_read, KeepsFiles};
 ghost use Rattle.script_text.specs.Action.Action.{Restart};
 ghost use Rattle.script_text.specs.Script.Input.{Asked};
 ghost use Rattle.reply_text.specs.Answer.Answer.{DoneBad};
-ghost use Rattle.machine_host.specs.Commands.{fate};
-ghost use Rattle.machine_host.specs.Machine.{Machine, bad_of};
-ghost use Rattle.machine_host.specs.Machine.Fate.{Restarts};
-ghost use Rattle.machine_host.specs.Run.{Hears, Transcript};
-ghost use Rattle.machine_host.specs.Restarting.{RestartMayLeave, holding, reading};
+ghost use Rattle.machine_model.specs.Commands.{fate};
+ghost use Rattle.machine_model.specs.Machine.{Machine, bad_of};
+ghost use Rattle.machine_model.specs.Machine.Fate.{Restarts};
+ghost use Rattle.machine_model.specs.Run.{Hears, Transcript};
+ghost use Rattle.machine_model.specs.Restarting.{RestartMayLeave, holding, reading};
 ghost use Rattle.state_images.specs.Examples.{ImageRows};
 ghost use Rattle.state_images.specs.Files.{all_present};
 ghost use Rattle.state_images.specs.Fitting.{FilesFit, PagesFit};
@@ -37,7 +37,7 @@ pub fn each_area_has_its_lines()
         → line_of geo blocks volume files (first_line geo area + i) ≡ lines i }
 {}
 
-/// The image has the volume's pages and which of them are there, whatever blocks and files there are.
+/// The image has the volume's pages and which of them exist, whatever blocks and files there are.
 pub fn the_volume_is_read()
     ensures there { (geo : Geometry) (blocks : List Block) (volume : List Page) (files : List File) → IsStorableVolume geo volume
         → presence_read geo (image_of geo blocks volume files).word ≡ presence_of volume }

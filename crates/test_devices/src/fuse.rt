@@ -11,7 +11,7 @@ use nvm_base::raise;
 mod device;
 mod lines;
 
-/// Passes so many counted calls to the inner device, and then cuts once: in place of the next one it powers the inner
+/// Passes a number of counted calls to the inner device, and then cuts once: in place of the next one it powers the inner
 /// device off.
 #[derive(Drop)]
 pub struct Fuse<D> {

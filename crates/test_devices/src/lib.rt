@@ -6,8 +6,6 @@ mod faulty;
 mod fuse;
 mod recorder;
 mod start;
-#[cfg(test)]
-mod tests;
 
 pub use faulty::Faulty;
 pub use fuse::Fuse;

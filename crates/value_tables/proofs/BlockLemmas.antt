@@ -17,22 +17,22 @@ use Rattle.block_sights.specs.Sights.Sight.{Whole, Scar, BadLine}
 use Rattle.block_sights.proofs.SeenLemmas.{seen_size}
 use Rattle.reply_text.specs.declared.reply.Why.TheVariants.{Range}
 use Rattle.script_text.specs.Action.{Action}
-use Rattle.machine_host.specs.Commands.{meaning}
-use Rattle.machine_host.specs.Machine.{Machine}
-use Rattle.machine_host.specs.Meaning.{BlocksLeft, VolumeLeft, most_refusal}
-use Rattle.machine_host.specs.Meaning.BlocksLeft.{Same, Either, Mixed}
-use Rattle.machine_host.specs.Meaning.VolumeLeft.{Kept, PartStored, PartSynced, AllOrNone, PageByPage}
-use Rattle.outcomes.specs.Blocks.{BlockRead, BlockReply, all_numbers_read, block_fits, is_block_reply, is_block_reply_by, is_read_of_blocks}
-use Rattle.outcomes.specs.Left.{blocks_may_pass, volume_may_pass, volume_passes}
-use Rattle.outcomes.specs.Pages.{line_fits}
-use Rattle.outcomes.specs.Seen.{files_may_show, may_show}
-use Rattle.asked_reads.specs.Fitting.{sight_allows, sight_fits}
+use Rattle.cut_places.specs.MachineModel.Commands.{meaning}
+use Rattle.cut_places.specs.MachineModel.Machine.{Machine}
+use Rattle.cut_places.specs.MachineModel.Meaning.{BlocksLeft, VolumeLeft, most_refusal}
+use Rattle.cut_places.specs.MachineModel.Meaning.BlocksLeft.{Same, Either, Mixed}
+use Rattle.cut_places.specs.MachineModel.Meaning.VolumeLeft.{Kept, PartStored, PartSynced, AllOrNone, PageByPage}
+use Rattle.cut_places.specs.Outcomes.Blocks.{BlockRead, BlockReply, all_numbers_read, block_fits, is_block_reply, is_block_reply_by, is_read_of_blocks}
+use Rattle.cut_places.specs.Outcomes.Left.{blocks_may_pass, volume_may_pass, volume_passes}
+use Rattle.cut_places.specs.Outcomes.Pages.{line_fits}
+use Rattle.cut_places.specs.Outcomes.Seen.{files_may_show, may_show}
+use Rattle.cut_places.specs.AskedReads.Fitting.{sight_allows, sight_fits}
 use Rattle.cut_places.proofs.MayShowLemmas.{files_show_none}
-use Rattle.sights.proofs.PassLemmas.{EachUnit}
+use Rattle.cut_places.proofs.SightsSeen.PassLemmas.{EachUnit}
 use Rattle.value_tables.specs.Left.{block_left, blocks_left, of_blocks}
 use Rattle.value_tables.specs.Listed.{IsSized, block_read, lists_sight, reply_of}
 use Rattle.value_tables.specs.Values.{block_values}
-use Rattle.sights.specs.BlockTelling.{same_sight}
+use Rattle.cut_places.specs.SightsSeen.BlockTelling.{same_sight}
 use Rattle.value_tables.proofs.LeftLemmas.{block_passes}
 use Rattle.value_tables.proofs.OnceLemmas.{any_of, any_sight}
 use Rattle.value_tables.proofs.RangeLemmas.{range_all, range_each}

@@ -14,21 +14,21 @@ use Rattle.nvm_model.specs.Storage.{File, Mapping}
 use Rattle.reply_text.specs.declared.reply.Why.{Why}
 use Rattle.reply_text.specs.declared.reply.Why.TheVariants as because
 use Rattle.script_text.specs.Action.{Action}
-use Rattle.machine_host.specs.Machine.{Machine}
-use Rattle.machine_host.specs.OnPages.{pages_named}
-use Rattle.durable.specs.Durable.{AllHaveLines}
-use Rattle.durable.proofs.FileThereLemmas.{lines-named}
-use Rattle.outcomes.specs.Blocks.{block_fits}
-use Rattle.outcomes.specs.Files.{FileRead, all_but, each_file, file_fits, files_fit, is_reply_of, reads_of}
-use Rattle.outcomes.specs.Left.{blocks_may_pass, files_may_pass, files_pass, stored_file, synced_file, volume_may_pass}
-use Rattle.outcomes.specs.Outcome.{AllHaveValues}
-use Rattle.outcomes.specs.Pages.{PageRead, PageReply, all_lines_read, is_given, is_refused_for, is_reply, is_reply_by, line_fits}
-use Rattle.outcomes.specs.Pages.PageReply.{Shows, Poison, Refuses}
-use Rattle.outcomes.specs.Seen.{may_show}
-use Rattle.asked_reads.specs.Fitting.{cell_fits}
-use Rattle.sights.specs.Seeing.{seen}
-use Rattle.sights.proofs.PassLemmas.{EachUnit}
-use Rattle.sights.proofs.ShowLemmas.{fits_seen}
+use Rattle.cut_places.specs.MachineModel.Machine.{Machine}
+use Rattle.cut_places.specs.MachineModel.OnPages.{pages_named}
+use Rattle.cut_places.specs.Durable.Durable.{AllHaveLines}
+use Rattle.cut_places.proofs.Durable.FileThereLemmas.{lines-named}
+use Rattle.cut_places.specs.Outcomes.Blocks.{block_fits}
+use Rattle.cut_places.specs.Outcomes.Files.{FileRead, all_but, each_file, file_fits, files_fit, is_reply_of, reads_of}
+use Rattle.cut_places.specs.Outcomes.Left.{blocks_may_pass, files_may_pass, files_pass, stored_file, synced_file, volume_may_pass}
+use Rattle.cut_places.specs.Outcomes.Outcome.{AllHaveValues}
+use Rattle.cut_places.specs.Outcomes.Pages.{PageRead, PageReply, all_lines_read, is_given, is_refused_for, is_reply, is_reply_by, line_fits}
+use Rattle.cut_places.specs.Outcomes.Pages.PageReply.{Shows, Poison, Refuses}
+use Rattle.cut_places.specs.Outcomes.Seen.{may_show}
+use Rattle.cut_places.specs.AskedReads.Fitting.{cell_fits}
+use Rattle.cut_places.specs.SightsSeen.Seeing.{seen}
+use Rattle.cut_places.proofs.SightsSeen.PassLemmas.{EachUnit}
+use Rattle.cut_places.proofs.SightsSeen.ShowLemmas.{fits_seen}
 use Rattle.cut_places.specs.FileChanges.{FilesChange, LinesChange, files_changed, left_by, pages_changed}
 use Rattle.cut_places.specs.FileChanges.FilesChange.{Nothing, Makes, Removes, Renames, Resizes, Changes, Maps, Unmaps}
 use Rattle.cut_places.specs.FileChanges.LinesChange.{Puts, Persists, Rewrites, Zeroes, Loses, Weakens, Clears}

@@ -7,12 +7,12 @@ use Rattle.nvm_model.specs.Cell.{Cell}
 use Rattle.nvm_model.specs.Listing.{AreAlike, file_name, file_of, is_named}
 use Rattle.nvm_model.specs.Storage.{File}
 use Rattle.script_text.specs.Action.{Action}
-use Rattle.machine_host.specs.Commands.{refusal, while_interrupted}
-use Rattle.machine_host.specs.Machine.{Machine}
-use Rattle.machine_host.specs.Meaning.{FilesLeft}
-use Rattle.machine_host.specs.Meaning.FilesLeft.{Unchanged, OldOrNew, StoredInPart, SyncedInPart}
-use Rattle.durable.specs.Durable.{IsComplete}
-use Rattle.sights.specs.Seeing.{seen}
+use Rattle.cut_places.specs.MachineModel.Commands.{refusal, while_interrupted}
+use Rattle.cut_places.specs.MachineModel.Machine.{Machine}
+use Rattle.cut_places.specs.MachineModel.Meaning.{FilesLeft}
+use Rattle.cut_places.specs.MachineModel.Meaning.FilesLeft.{Unchanged, OldOrNew, StoredInPart, SyncedInPart}
+use Rattle.cut_places.specs.Durable.Durable.{IsComplete}
+use Rattle.cut_places.specs.SightsSeen.Seeing.{seen}
 use Rattle.cut_places.specs.Sights.{files_once_done}
 use Rattle.cut_places.specs.declared.line.FileLine.{FileLine}
 use Rattle.cut_places.specs.FileChanges.{FilesChange, files_changed, left_by}

@@ -7,17 +7,17 @@ use Rattle.nvm_model.specs.Page.{Page, cell_of}
 use Rattle.nvm_model.specs.Storage.{File, Mapping}
 use Rattle.script_text.specs.Action.{Action}
 use Rattle.script_text.specs.Action.Action.{PoisonFile, WeakenFile}
-use Rattle.machine_host.specs.Commands.{meaning}
-use Rattle.machine_host.specs.Meaning.{FilesLeft}
-use Rattle.machine_host.specs.Meaning.FilesLeft.{Unchanged, OldOrNew, StoredInPart, SyncedInPart}
-use Rattle.durable.specs.Durable.{AllHaveLines, HaveLines, IsLineThere}
-use Rattle.durable.specs.Place.{is_line_present}
-use Rattle.durable.proofs.FileThereLemmas.{lines-files_altered}
-use Rattle.durable.proofs.PresenceLemmas.{absent_line}
-use Rattle.outcomes.specs.Outcome.{AllHaveValues, HaveValues}
+use Rattle.cut_places.specs.MachineModel.Commands.{meaning}
+use Rattle.cut_places.specs.MachineModel.Meaning.{FilesLeft}
+use Rattle.cut_places.specs.MachineModel.Meaning.FilesLeft.{Unchanged, OldOrNew, StoredInPart, SyncedInPart}
+use Rattle.cut_places.specs.Durable.Durable.{AllHaveLines, HaveLines, IsLineThere}
+use Rattle.cut_places.specs.Durable.Place.{is_line_present}
+use Rattle.cut_places.proofs.Durable.FileThereLemmas.{lines-files_altered}
+use Rattle.cut_places.proofs.Durable.PresenceLemmas.{absent_line}
+use Rattle.cut_places.specs.Outcomes.Outcome.{AllHaveValues, HaveValues}
 use Rattle.outcome_runs.proofs.FileValueLemmas.{files_made_have}
-use Rattle.sights.specs.Seeing.{or_zeros, seen}
-use Rattle.sights.proofs.PassLemmas.{EachUnit}
+use Rattle.cut_places.specs.SightsSeen.Seeing.{or_zeros, seen}
+use Rattle.cut_places.proofs.SightsSeen.PassLemmas.{EachUnit}
 use Rattle.value_tables.specs.Left.{FileSide, file_side, files_left, of_files, side_of}
 use Rattle.value_tables.specs.Left.FileSide.{NoFile, PastEnd, OfLine}
 use Rattle.value_tables.specs.Listed.{HasWords, HaveOne}

@@ -5,11 +5,11 @@ use Rattle.std.proofs.lemmas.List.{append-nil, drop_all}
 use Rattle.word_tables.specs.declared.geometry.Geometry.{Geometry}
 use Rattle.script_text.specs.declared.command.Command.{Command}
 use Rattle.script_text.specs.Action.{action_of}
-use Rattle.machine_host.specs.Machine.{Machine}
-use Rattle.machine_host.specs.Commands.{fate, refusal}
-use Rattle.outcomes.specs.Stops.{led_to}
-use Rattle.asked_reads.specs.Program.{inputs_of_lines}
-use Rattle.asked_reads.specs.declared.read.Read.{Read}
+use Rattle.cut_places.specs.MachineModel.Machine.{Machine}
+use Rattle.cut_places.specs.MachineModel.Commands.{fate, refusal}
+use Rattle.cut_places.specs.Outcomes.Stops.{led_to}
+use Rattle.cut_places.specs.AskedReads.Program.{inputs_of_lines}
+use Rattle.cut_places.specs.AskedReads.declared.read.Read.{Read}
 use Rattle.cut_places.specs.declared.place.CutPlace.TheVariants.{Before}
 use Rattle.cut_places.specs.declared.sight.Sight.{Sight}
 use Rattle.cut_places.specs.Following.{AreDone, Follows}

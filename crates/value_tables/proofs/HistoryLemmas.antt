@@ -14,13 +14,13 @@ use Rattle.nvm_model.proofs.MediaLemmas.{cell_of-change}
 use Rattle.pm_volume.specs.Refusals.{physical_offset}
 use Rattle.script_text.specs.Action.{Action}
 use Rattle.script_text.specs.Action.Action.{VStore, VSync, VPSync, VDiscard, VDiscardIf, ClearVolume}
-use Rattle.machine_host.specs.Commands.{meaning}
-use Rattle.machine_host.specs.OnVolume.{persist_at}
-use Rattle.durable.specs.Durable.{HaveLines}
-use Rattle.sights.specs.Changing.{LinesChange, line_changed}
-use Rattle.sights.specs.Changing.LinesChange.{Nothing, Puts, Persists, Zeroes, Loses, Weakens, Clears}
-use Rattle.sights.specs.Seeing.{or_zeros, seen}
-use Rattle.sights.proofs.SeenLemmas.{seen-discard, seen-persist, seen-put}
+use Rattle.cut_places.specs.MachineModel.Commands.{meaning}
+use Rattle.cut_places.specs.MachineModel.OnVolume.{persist_at}
+use Rattle.cut_places.specs.Durable.Durable.{HaveLines}
+use Rattle.cut_places.specs.SightsSeen.Changing.{LinesChange, line_changed}
+use Rattle.cut_places.specs.SightsSeen.Changing.LinesChange.{Nothing, Puts, Persists, Zeroes, Loses, Weakens, Clears}
+use Rattle.cut_places.specs.SightsSeen.Seeing.{or_zeros, seen}
+use Rattle.cut_places.proofs.SightsSeen.SeenLemmas.{seen-discard, seen-persist, seen-put}
 use Rattle.value_tables.specs.Listed.{HasWords, HaveOne}
 
 pub word_has : (words : List (List ℕ)) (w : ℕ) → w < length words → HaveOne words → 1 ≤ length (slice_index_or words w [])

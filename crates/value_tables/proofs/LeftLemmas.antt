@@ -11,18 +11,18 @@ use Rattle.pm_volume.specs.Refusals.{physical_offset}
 use Rattle.block_sights.specs.Sights.{sight}
 use Rattle.script_text.specs.Action.{Action}
 use Rattle.script_text.specs.Action.Action.{VStore, VSync, VPSync, VDiscard, VDiscardIf, ClearVolume}
-use Rattle.machine_host.specs.Commands.{meaning}
-use Rattle.machine_host.specs.Meaning.{BlocksLeft}
-use Rattle.machine_host.specs.Meaning.BlocksLeft.{Same, Either, Mixed}
-use Rattle.machine_host.specs.OnVolume.{part_synced_at, persist_at}
-use Rattle.durable.specs.Durable.{HaveLines}
-use Rattle.outcomes.specs.Blocks.{BlockRead, block_fits}
-use Rattle.outcomes.specs.Left.{blocks_may_pass, blocks_pass, volume_may_pass, volume_passes}
-use Rattle.outcomes.specs.Pages.{PageRead, line_fits}
-use Rattle.asked_reads.specs.Fitting.{cell_fits, sight_fits}
-use Rattle.sights.specs.Seeing.{seen}
-use Rattle.sights.proofs.SeenLemmas.{seen-fill, seen-persist}
-use Rattle.sights.proofs.ShowLemmas.{block_seen, fits_seen}
+use Rattle.cut_places.specs.MachineModel.Commands.{meaning}
+use Rattle.cut_places.specs.MachineModel.Meaning.{BlocksLeft}
+use Rattle.cut_places.specs.MachineModel.Meaning.BlocksLeft.{Same, Either, Mixed}
+use Rattle.cut_places.specs.MachineModel.OnVolume.{part_synced_at, persist_at}
+use Rattle.cut_places.specs.Durable.Durable.{HaveLines}
+use Rattle.cut_places.specs.Outcomes.Blocks.{BlockRead, block_fits}
+use Rattle.cut_places.specs.Outcomes.Left.{blocks_may_pass, blocks_pass, volume_may_pass, volume_passes}
+use Rattle.cut_places.specs.Outcomes.Pages.{PageRead, line_fits}
+use Rattle.cut_places.specs.AskedReads.Fitting.{cell_fits, sight_fits}
+use Rattle.cut_places.specs.SightsSeen.Seeing.{seen}
+use Rattle.cut_places.proofs.SightsSeen.SeenLemmas.{seen-fill, seen-persist}
+use Rattle.cut_places.proofs.SightsSeen.ShowLemmas.{block_seen, fits_seen}
 use Rattle.value_tables.specs.Left.{blocks_left, lines_left, of_blocks, of_lines}
 
 one_of : (a : Bool) → (a && true) ≡ (a || false)

@@ -17,3 +17,4 @@ pub mod PlaceLemmas
 pub mod GoLemmas
 pub mod SoundLemmas
 pub mod WithinLemmas
+pub use Rattle.outcome_runs.proofs as OutcomeRuns

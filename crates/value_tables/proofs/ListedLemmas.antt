@@ -9,21 +9,21 @@ use Rattle.nvm_model.specs.Page.{Page, is_bad_cell}
 use Rattle.nvm_model.specs.Storage.{Block}
 use Rattle.reply_text.specs.declared.reply.Why.TheVariants.{Range}
 use Rattle.script_text.specs.Action.{Action}
-use Rattle.machine_host.specs.Commands.{meaning}
-use Rattle.machine_host.specs.Machine.{Machine}
-use Rattle.machine_host.specs.Meaning.{BlocksLeft, VolumeLeft, most_refusal}
-use Rattle.machine_host.specs.Meaning.BlocksLeft.{Same, Either, Mixed}
-use Rattle.machine_host.specs.Meaning.VolumeLeft.{Kept as Unchanged, PartStored, PartSynced, AllOrNone, PageByPage}
-use Rattle.durable.specs.Durable.{HaveLines}
-use Rattle.outcomes.specs.Blocks.{block_fits}
-use Rattle.outcomes.specs.Left.{blocks_may_pass, blocks_pass, volume_may_pass}
-use Rattle.outcomes.specs.Pages.{PageReply, all_lines_read, is_given, is_reply, is_reply_by, line_fits}
-use Rattle.outcomes.specs.Pages.PageReply.{Shows, Poison}
-use Rattle.outcomes.specs.Seen.{files_may_show, may_show}
-use Rattle.asked_reads.specs.Fitting.{cell_fits}
-use Rattle.sights.specs.Seeing.{seen}
+use Rattle.cut_places.specs.MachineModel.Commands.{meaning}
+use Rattle.cut_places.specs.MachineModel.Machine.{Machine}
+use Rattle.cut_places.specs.MachineModel.Meaning.{BlocksLeft, VolumeLeft, most_refusal}
+use Rattle.cut_places.specs.MachineModel.Meaning.BlocksLeft.{Same, Either, Mixed}
+use Rattle.cut_places.specs.MachineModel.Meaning.VolumeLeft.{Kept as Unchanged, PartStored, PartSynced, AllOrNone, PageByPage}
+use Rattle.cut_places.specs.Durable.Durable.{HaveLines}
+use Rattle.cut_places.specs.Outcomes.Blocks.{block_fits}
+use Rattle.cut_places.specs.Outcomes.Left.{blocks_may_pass, blocks_pass, volume_may_pass}
+use Rattle.cut_places.specs.Outcomes.Pages.{PageReply, all_lines_read, is_given, is_reply, is_reply_by, line_fits}
+use Rattle.cut_places.specs.Outcomes.Pages.PageReply.{Shows, Poison}
+use Rattle.cut_places.specs.Outcomes.Seen.{files_may_show, may_show}
+use Rattle.cut_places.specs.AskedReads.Fitting.{cell_fits}
+use Rattle.cut_places.specs.SightsSeen.Seeing.{seen}
 use Rattle.cut_places.proofs.MayShowLemmas.{files_show_none}
-use Rattle.sights.proofs.PassLemmas.{EachUnit}
+use Rattle.cut_places.proofs.SightsSeen.PassLemmas.{EachUnit}
 use Rattle.value_tables.specs.Left.{line_left, lines_left, of_lines}
 use Rattle.value_tables.specs.Listed.{HasWords, IsSound, has_bytes, lists_bytes, word_read}
 use Rattle.value_tables.specs.Values.{history_of, may_be_bad, word_values}

@@ -3,7 +3,7 @@ use Rattle.std.proofs.Common.{◌≡◌, ℕ, suc, ◌+◌, ◌<◌, true, List,
 use Rattle.std.specs.List.{list_all}
 use Rattle.std.proofs.lemmas.Bool.{and_parts}
 use Rattle.word_tables.specs.declared.geometry.Geometry.{Geometry}
-use Rattle.asked_reads.specs.declared.read.Read.{Read}
+use Rattle.cut_places.specs.AskedReads.declared.read.Read.{Read}
 use Rattle.cut_places.specs.SeesFiles.{is_held}
 use Rattle.cut_places.proofs.AllLemmas.{all_append}
 use Rattle.value_tables.specs.Left.{Found}

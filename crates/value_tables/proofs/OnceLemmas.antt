@@ -7,9 +7,9 @@ use Rattle.std.proofs.lemmas.Slice.Eq.{bytes_eq-Decides}
 use Rattle.nvm_model.specs.Cell.{Cell}
 use Rattle.block_sights.specs.Sights.{Sight}
 use Rattle.block_sights.specs.Sights.Sight.{Whole, Scar, BadLine}
-use Rattle.sights.proofs.PassLemmas.{EachUnit}
+use Rattle.cut_places.proofs.SightsSeen.PassLemmas.{EachUnit}
 use Rattle.value_tables.specs.Values.{history_of, values_with, with_all, with_one}
-use Rattle.sights.specs.BlockTelling.{same_sight}
+use Rattle.cut_places.specs.SightsSeen.BlockTelling.{same_sight}
 
 or_none : (a b : Bool) → (a || (b || false)) ≡ (a || b)
 or_none true b = refl

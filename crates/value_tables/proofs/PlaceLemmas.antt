@@ -10,22 +10,22 @@ use Rattle.cut_places.specs.SeesFiles.{is_held}
 use Rattle.cut_places.specs.FilesState.{FilesState}
 use Rattle.reply_text.specs.Answer.{Answer}
 use Rattle.script_text.specs.Action.{Action}
-use Rattle.machine_host.specs.Machine.{Machine, Fate}
-use Rattle.machine_host.specs.Machine.Fate.{Gives, Works, Orders, Cuts, Restarts, Recovers}
-use Rattle.machine_host.specs.Commands.{fate, meaning, refusal, unless_refused, while_interrupted}
-use Rattle.outcomes.specs.Stops.{inside, is_of_program, led_to}
-use Rattle.asked_reads.specs.declared.read.Read.{Read}
-use Rattle.sights.specs.declared.line_seen.LineSeen.{LineSeen}
-use Rattle.sights.specs.declared.block_seen.BlockSeen.{BlockSeen}
+use Rattle.cut_places.specs.MachineModel.Machine.{Machine, Fate}
+use Rattle.cut_places.specs.MachineModel.Machine.Fate.{Gives, Works, Orders, Cuts, Restarts, Recovers}
+use Rattle.cut_places.specs.MachineModel.Commands.{fate, meaning, refusal, unless_refused, while_interrupted}
+use Rattle.cut_places.specs.Outcomes.Stops.{inside, is_of_program, led_to}
+use Rattle.cut_places.specs.AskedReads.declared.read.Read.{Read}
+use Rattle.cut_places.specs.SightsSeen.declared.line_seen.LineSeen.{LineSeen}
+use Rattle.cut_places.specs.SightsSeen.declared.block_seen.BlockSeen.{BlockSeen}
 use Rattle.cut_places.specs.declared.place.CutPlace.{CutPlace}
 use Rattle.cut_places.specs.declared.place.CutPlace.TheVariants.{Before, Inside}
 use Rattle.cut_places.specs.declared.sight.Sight.{Sight}
 use Rattle.cut_places.specs.Following.{Follows, IsWithin}
 use Rattle.cut_places.specs.Places.{Stop}
 use Rattle.cut_places.specs.Sights.{files_once_done}
-use Rattle.sights.specs.Units.{block_numbers, block_once_done, line_numbers, line_once_done}
-use Rattle.sights.specs.Ways.{blocks_way, lines_way}
-use Rattle.sights.proofs.SizeLemmas.{geometry_stays}
+use Rattle.cut_places.specs.SightsSeen.Units.{block_numbers, block_once_done, line_numbers, line_once_done}
+use Rattle.cut_places.specs.SightsSeen.Ways.{blocks_way, lines_way}
+use Rattle.cut_places.proofs.SightsSeen.SizeLemmas.{geometry_stays}
 use Rattle.cut_places.proofs.StepLemmas.{blocks_in, lines_of, ready_after, sees_after}
 use Rattle.cut_places.proofs.WorkLemmas.{ChangesNone, works_or_none}
 use Rattle.value_tables.specs.declared.table.Table.{Table}

@@ -8,9 +8,9 @@ use Rattle.std.proofs.lemmas.List.FromFn.{get_or-range_with_len, length-range_wi
 use Rattle.nvm_base.specs.Stock.{Stock}
 use Rattle.nvm_model.specs.Cell.{Cell}
 use Rattle.block_sights.specs.Sights.{Sight}
-use Rattle.sights.specs.declared.line_seen.LineSeen.{LineSeen}
-use Rattle.sights.specs.declared.block_seen.BlockSeen.{BlockSeen}
-use Rattle.sights.specs.Units.{block_numbers, line_numbers}
+use Rattle.cut_places.specs.SightsSeen.declared.line_seen.LineSeen.{LineSeen}
+use Rattle.cut_places.specs.SightsSeen.declared.block_seen.BlockSeen.{BlockSeen}
+use Rattle.cut_places.specs.SightsSeen.Units.{block_numbers, line_numbers}
 use Rattle.value_tables.specs.declared.shown.Shown.{Shown}
 use Rattle.value_tables.specs.declared.shown.Shown.TheVariants.{Block, FileWord, Word}
 use Rattle.cut_places.specs.SeesFiles.{is_held}

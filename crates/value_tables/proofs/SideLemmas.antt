@@ -7,22 +7,22 @@ use Rattle.pm_volume.specs.Refusals.{physical_offset}
 use Rattle.block_sights.specs.Sights.{Sight, sight}
 use Rattle.script_text.specs.Action.{Action}
 use Rattle.script_text.specs.Action.Action.{BWrite, BAtomic, BMulti, BDiscard, BDiscardIf, BScar, VStore, VSync, VPSync, VDiscard, VDiscardIf, ClearVolume}
-use Rattle.machine_host.specs.Machine.{Machine}
-use Rattle.machine_host.specs.Commands.{meaning, refusal, while_interrupted}
-use Rattle.machine_host.specs.OnVolume.{part_synced_at}
-use Rattle.durable.specs.Durable.{HaveEightLines, HaveLines}
-use Rattle.sights.specs.declared.line_seen.LineSeen.{LineSeen}
-use Rattle.sights.specs.declared.block_seen.BlockSeen.{BlockSeen}
-use Rattle.sights.specs.declared.way.Way.{Way}
-use Rattle.sights.specs.Changing.{line_changed, volume_change}
-use Rattle.sights.specs.ChangingBlocks.{block_changed}
-use Rattle.sights.specs.Seeing.{seen}
-use Rattle.sights.specs.Units.{AreBlocks, AreLines, block_once_done, line_once_done}
-use Rattle.sights.specs.Ways.{blocks_way, lines_way}
-use Rattle.sights.proofs.BlockChangeLemmas.{blocks_changed}
-use Rattle.sights.proofs.InsideLemmas.{AreThere, HaveLine}
-use Rattle.sights.proofs.PassLemmas.{EachUnit}
-use Rattle.sights.proofs.VolumeChangeLemmas.{volume_changed}
+use Rattle.cut_places.specs.MachineModel.Machine.{Machine}
+use Rattle.cut_places.specs.MachineModel.Commands.{meaning, refusal, while_interrupted}
+use Rattle.cut_places.specs.MachineModel.OnVolume.{part_synced_at}
+use Rattle.cut_places.specs.Durable.Durable.{HaveEightLines, HaveLines}
+use Rattle.cut_places.specs.SightsSeen.declared.line_seen.LineSeen.{LineSeen}
+use Rattle.cut_places.specs.SightsSeen.declared.block_seen.BlockSeen.{BlockSeen}
+use Rattle.cut_places.specs.SightsSeen.declared.way.Way.{Way}
+use Rattle.cut_places.specs.SightsSeen.Changing.{line_changed, volume_change}
+use Rattle.cut_places.specs.SightsSeen.ChangingBlocks.{block_changed}
+use Rattle.cut_places.specs.SightsSeen.Seeing.{seen}
+use Rattle.cut_places.specs.SightsSeen.Units.{AreBlocks, AreLines, block_once_done, line_once_done}
+use Rattle.cut_places.specs.SightsSeen.Ways.{blocks_way, lines_way}
+use Rattle.cut_places.proofs.SightsSeen.BlockChangeLemmas.{blocks_changed}
+use Rattle.cut_places.proofs.SightsSeen.InsideLemmas.{AreThere, HaveLine}
+use Rattle.cut_places.proofs.SightsSeen.PassLemmas.{EachUnit}
+use Rattle.cut_places.proofs.SightsSeen.VolumeChangeLemmas.{volume_changed}
 use Rattle.value_tables.specs.Left.{block_left, blocks_left, line_left, lines_left, of_blocks, of_lines}
 use Rattle.value_tables.specs.Sides.{AreBlocksLeft, AreLeft, where_mixed}
 

@@ -6,24 +6,24 @@ use Rattle.reply_text.specs.Answer.{Answer}
 use Rattle.script_text.specs.Action.{Action}
 use Rattle.script_text.specs.Script.{Input}
 use Rattle.script_text.specs.Script.Input.{Skipped, Malformed, Overlong, Asked}
-use Rattle.machine_host.specs.Machine.{Machine, Fate}
-use Rattle.machine_host.specs.Machine.Fate.{Gives, Works, Orders, Cuts, Restarts, Recovers}
-use Rattle.machine_host.specs.Commands.{fate, meaning, refusal, unless_refused, while_interrupted}
-use Rattle.durable.specs.Durable.{IsCounted}
-use Rattle.durable.proofs.StepKinds.{files_made}
-use Rattle.durable.proofs.SuitLemmas.{Suits, suits}
-use Rattle.outcomes.specs.Finds.{IsReady}
-use Rattle.outcomes.specs.Outcome.{AllHaveValues}
-use Rattle.outcomes.specs.Stops.{IsProgram, inside, is_of_program, led_to}
+use Rattle.cut_places.specs.MachineModel.Machine.{Machine, Fate}
+use Rattle.cut_places.specs.MachineModel.Machine.Fate.{Gives, Works, Orders, Cuts, Restarts, Recovers}
+use Rattle.cut_places.specs.MachineModel.Commands.{fate, meaning, refusal, unless_refused, while_interrupted}
+use Rattle.cut_places.specs.Durable.Durable.{IsCounted}
+use Rattle.cut_places.proofs.Durable.StepKinds.{files_made}
+use Rattle.cut_places.proofs.Durable.SuitLemmas.{Suits, suits}
+use Rattle.cut_places.specs.Outcomes.Finds.{IsReady}
+use Rattle.cut_places.specs.Outcomes.Outcome.{AllHaveValues}
+use Rattle.cut_places.specs.Outcomes.Stops.{IsProgram, inside, is_of_program, led_to}
 use Rattle.outcome_runs.proofs.FileValueLemmas.{files_after_have}
 use Rattle.cut_places.specs.declared.place.CutPlace.{CutPlace}
 use Rattle.cut_places.specs.declared.place.CutPlace.TheVariants.{Before, Inside}
-use Rattle.sights.specs.Changing.{volume_change}
+use Rattle.cut_places.specs.SightsSeen.Changing.{volume_change}
 use Rattle.cut_places.specs.Places.{Stop, cut_places}
-use Rattle.sights.specs.Seeing.{seen}
-use Rattle.sights.proofs.SizeLemmas.{geometry_stays}
+use Rattle.cut_places.specs.SightsSeen.Seeing.{seen}
+use Rattle.cut_places.proofs.SightsSeen.SizeLemmas.{geometry_stays}
 use Rattle.cut_places.proofs.StepLemmas.{ready_after}
-use Rattle.sights.proofs.VolumeChangeLemmas.{volume_changed}
+use Rattle.cut_places.proofs.SightsSeen.VolumeChangeLemmas.{volume_changed}
 use Rattle.value_tables.specs.Listed.{HasWords, IsSound}
 use Rattle.value_tables.proofs.HistoryLemmas.{changed_has}
 

@@ -3,15 +3,15 @@ use Rattle.std.proofs.Common.{◌≡◌, ℕ, zero, suc, ◌+◌, ◌-◌, ◌*�
 use Rattle.std.specs.List.{range_with_len}
 use Rattle.word_tables.specs.declared.geometry.Geometry.{Geometry}
 use Rattle.reply_text.specs.declared.reply.Why.{Why}
-use Rattle.machine_host.proofs.RefusalLemmas.{read_within}
-use Rattle.asked_reads.specs.declared.read.Read.{Read}
-use Rattle.asked_reads.specs.declared.read.Read.TheVariants.{Blocks, File, Volume}
-use Rattle.sights.specs.declared.line_seen.LineSeen.{LineSeen}
-use Rattle.sights.specs.declared.block_seen.BlockSeen.{BlockSeen}
+use Rattle.cut_places.proofs.MachineModel.RefusalLemmas.{read_within}
+use Rattle.cut_places.specs.AskedReads.declared.read.Read.{Read}
+use Rattle.cut_places.specs.AskedReads.declared.read.Read.TheVariants.{Blocks, File, Volume}
+use Rattle.cut_places.specs.SightsSeen.declared.line_seen.LineSeen.{LineSeen}
+use Rattle.cut_places.specs.SightsSeen.declared.block_seen.BlockSeen.{BlockSeen}
 use Rattle.cut_places.specs.declared.sight.Sight.{Sight}
 use Rattle.cut_places.specs.Following.{IsWithin}
-use Rattle.sights.specs.Units.{AreAmong, AreWithin, block_numbers, line_numbers}
-use Rattle.sights.proofs.PassLemmas.{EachUnit}
+use Rattle.cut_places.specs.SightsSeen.Units.{AreAmong, AreWithin, block_numbers, line_numbers}
+use Rattle.cut_places.proofs.SightsSeen.PassLemmas.{EachUnit}
 use Rattle.value_tables.specs.Looking.{IsOf, blocks_looked_at, blocks_touched, lines_looked_at, lines_touched, none_refused}
 use Rattle.value_tables.specs.Rows.{read_refusal}
 

@@ -12,9 +12,9 @@ use Rattle.nvm_model.specs.Cell.{Cell, touches}
 use Rattle.nvm_model.specs.Cell.Cell.{Bad, Kept}
 use Rattle.nvm_model.specs.Numbered.{is_among}
 use Rattle.nvm_model.specs.Page.{is_bad_cell}
-use Rattle.outcomes.specs.Pages.{PageRead, PageReply, agrees, all_agree, is_given, words_fit}
-use Rattle.outcomes.specs.Pages.PageReply.{Shows, Poison}
-use Rattle.asked_reads.specs.Fitting.{cell_fits}
+use Rattle.cut_places.specs.Outcomes.Pages.{PageRead, PageReply, agrees, all_agree, is_given, words_fit}
+use Rattle.cut_places.specs.Outcomes.Pages.PageReply.{Shows, Poison}
+use Rattle.cut_places.specs.AskedReads.Fitting.{cell_fits}
 use Rattle.value_tables.specs.Listed.{HasWords, has_bytes, lists_bytes}
 use Rattle.value_tables.specs.Values.{history_of}
 use Rattle.value_tables.proofs.HistoryLemmas.{word_has}

@@ -8,13 +8,13 @@ use Rattle.nvm_model.specs.Page.{Page}
 use Rattle.nvm_model.specs.Storage.{Block, File, Mapping}
 use Rattle.block_sights.specs.Sights.{Sight, sight}
 use Rattle.script_text.specs.Action.{Action}
-use Rattle.machine_host.specs.Machine.{Machine}
-use Rattle.machine_host.specs.Commands.{meaning}
-use Rattle.machine_host.specs.Meaning.{BlocksLeft, FilesLeft, VolumeLeft}
-use Rattle.machine_host.specs.Meaning.BlocksLeft.{Same, Either, Mixed}
-use Rattle.machine_host.specs.Meaning.FilesLeft.{Unchanged, OldOrNew, StoredInPart, SyncedInPart}
-use Rattle.machine_host.specs.Meaning.VolumeLeft.{Kept, PartStored, PartSynced, AllOrNone, PageByPage}
-use Rattle.sights.specs.Seeing.{seen}
+use Rattle.cut_places.specs.MachineModel.Machine.{Machine}
+use Rattle.cut_places.specs.MachineModel.Commands.{meaning}
+use Rattle.cut_places.specs.MachineModel.Meaning.{BlocksLeft, FilesLeft, VolumeLeft}
+use Rattle.cut_places.specs.MachineModel.Meaning.BlocksLeft.{Same, Either, Mixed}
+use Rattle.cut_places.specs.MachineModel.Meaning.FilesLeft.{Unchanged, OldOrNew, StoredInPart, SyncedInPart}
+use Rattle.cut_places.specs.MachineModel.Meaning.VolumeLeft.{Kept, PartStored, PartSynced, AllOrNone, PageByPage}
+use Rattle.cut_places.specs.SightsSeen.Seeing.{seen}
 
 -- where a word of a file is sought: there is no such file, it ends before the word, or a line has it
 pub data FileSide : Type 0 where

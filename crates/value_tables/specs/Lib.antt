@@ -8,3 +8,4 @@ pub mod Tables
 pub mod Walking
 pub mod Listed
 pub mod Worked
+pub use Rattle.outcome_runs.specs as OutcomeRuns

@@ -7,16 +7,16 @@ use Rattle.nvm_model.specs.Cell.{Cell}
 use Rattle.nvm_model.specs.Cell.Cell.{Bad, Kept}
 use Rattle.block_sights.specs.Sights.{Sight}
 use Rattle.block_sights.specs.Sights.Sight.{Whole, Scar, BadLine}
-use Rattle.machine_host.specs.Machine.{Machine}
-use Rattle.durable.specs.Durable.{AllHaveLines, HaveLines, IsCounted}
-use Rattle.outcomes.specs.Blocks.{BlockReply}
-use Rattle.outcomes.specs.Blocks.BlockReply.{Shows as ShowsBlocks, Scar as Scarred, BadLine as Poisoned}
-use Rattle.outcomes.specs.Outcome.{AllHaveValues}
-use Rattle.outcomes.specs.Pages.{PageReply}
-use Rattle.outcomes.specs.Seen.{Seen}
-use Rattle.outcomes.specs.Seen.Seen.{of_blocks, of_file, of_volume}
-use Rattle.sights.specs.Seeing.{seen}
-use Rattle.sights.specs.BlockTelling.{same_sight}
+use Rattle.cut_places.specs.MachineModel.Machine.{Machine}
+use Rattle.cut_places.specs.Durable.Durable.{AllHaveLines, HaveLines, IsCounted}
+use Rattle.cut_places.specs.Outcomes.Blocks.{BlockReply}
+use Rattle.cut_places.specs.Outcomes.Blocks.BlockReply.{Shows as ShowsBlocks, Scar as Scarred, BadLine as Poisoned}
+use Rattle.cut_places.specs.Outcomes.Outcome.{AllHaveValues}
+use Rattle.cut_places.specs.Outcomes.Pages.{PageReply}
+use Rattle.cut_places.specs.Outcomes.Seen.{Seen}
+use Rattle.cut_places.specs.Outcomes.Seen.Seen.{of_blocks, of_file, of_volume}
+use Rattle.cut_places.specs.SightsSeen.Seeing.{seen}
+use Rattle.cut_places.specs.SightsSeen.BlockTelling.{same_sight}
 
 -- a line is bad, or has eight words, each with a value
 abbrev pub HaveOne : List (List ℕ) → Type 0

@@ -5,9 +5,9 @@ use Rattle.nvm_base.specs.Units.{units_of}
 use Rattle.word_tables.specs.declared.geometry.Geometry.{Geometry}
 use Rattle.reply_text.specs.declared.reply.Why.{Why}
 use Rattle.cut_places.specs.declared.sight.Sight.{Sight}
-use Rattle.sights.specs.Units.{block_numbers, line_numbers}
-use Rattle.asked_reads.specs.declared.read.Read.{Read}
-use Rattle.asked_reads.specs.declared.read.Read.TheVariants as reads
+use Rattle.cut_places.specs.SightsSeen.Units.{block_numbers, line_numbers}
+use Rattle.cut_places.specs.AskedReads.declared.read.Read.{Read}
+use Rattle.cut_places.specs.AskedReads.declared.read.Read.TheVariants as reads
 use Rattle.cut_places.specs.SeesFiles.{is_held}
 use Rattle.value_tables.specs.Rows.{read_refusal}
 

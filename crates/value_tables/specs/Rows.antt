@@ -7,14 +7,14 @@ use Rattle.nvm_base.specs.Units.{units_of}
 use Rattle.word_tables.specs.declared.geometry.Geometry.{Geometry}
 use Rattle.nvm_model.specs.Cell.{Cell}
 use Rattle.block_sights.specs.Sights.{Sight}
-use Rattle.sights.specs.BlockTelling.{sight_text}
+use Rattle.cut_places.specs.SightsSeen.BlockTelling.{sight_text}
 use Rattle.reply_text.specs.declared.reply.Why.{Why}
 use Rattle.reply_text.specs.Answer.{answer_line}
 use Rattle.reply_text.specs.Answer.Answer.{Refused}
-use Rattle.machine_host.specs.Meaning.{most_refusal}
-use Rattle.machine_host.specs.Machine.{Machine}
-use Rattle.asked_reads.specs.declared.read.Read.{Read}
-use Rattle.asked_reads.specs.declared.read.Read.TheVariants as reads
+use Rattle.cut_places.specs.MachineModel.Meaning.{most_refusal}
+use Rattle.cut_places.specs.MachineModel.Machine.{Machine}
+use Rattle.cut_places.specs.AskedReads.declared.read.Read.{Read}
+use Rattle.cut_places.specs.AskedReads.declared.read.Read.TheVariants as reads
 use Rattle.value_tables.specs.declared.shown.Shown.{Shown}
 use Rattle.value_tables.specs.declared.shown.Shown.TheVariants.{Word, Block, FileWord, Refuses}
 use Rattle.value_tables.specs.Left.{FileSide, Found, found}

@@ -5,10 +5,10 @@ use Rattle.nvm_base.specs.Stock.{Stock}
 use Rattle.nvm_model.specs.Cell.{Cell}
 use Rattle.nvm_model.specs.Listing.{file_of}
 use Rattle.block_sights.specs.Sights.{Sight}
-use Rattle.sights.specs.declared.line_seen.LineSeen.{LineSeen}
-use Rattle.sights.specs.declared.block_seen.BlockSeen.{BlockSeen}
-use Rattle.sights.specs.declared.way.Way.{Way}
-use Rattle.machine_host.specs.Meaning.{FilesLeft}
+use Rattle.cut_places.specs.SightsSeen.declared.line_seen.LineSeen.{LineSeen}
+use Rattle.cut_places.specs.SightsSeen.declared.block_seen.BlockSeen.{BlockSeen}
+use Rattle.cut_places.specs.SightsSeen.declared.way.Way.{Way}
+use Rattle.cut_places.specs.MachineModel.Meaning.{FilesLeft}
 use Rattle.cut_places.specs.FileLines.{line_held}
 use Rattle.cut_places.specs.FileMixing.{way_left}
 use Rattle.cut_places.specs.SeesFiles.{is_held}

@@ -4,7 +4,7 @@ use Rattle.std.specs.Str.{bytes_eq}
 use Rattle.cut_places.specs.declared.place.CutPlace.{CutPlace}
 use Rattle.cut_places.specs.declared.place.CutPlace.TheVariants.{Before, Inside}
 use Rattle.cut_places.specs.Places.{Stop}
-use Rattle.asked_reads.specs.declared.read.Read.{Read}
+use Rattle.cut_places.specs.AskedReads.declared.read.Read.{Read}
 use Rattle.value_tables.specs.Rows.{rows_at}
 
 -- the rows that are not as the last ones were; all, where there were none

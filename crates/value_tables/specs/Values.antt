@@ -5,7 +5,7 @@ use Rattle.nvm_model.specs.Cell.{Cell}
 use Rattle.nvm_model.specs.Cell.Cell.{Bad, Kept}
 use Rattle.nvm_model.specs.Page.{is_bad_cell}
 use Rattle.block_sights.specs.Sights.{Sight}
-use Rattle.sights.specs.BlockTelling.{same_sight}
+use Rattle.cut_places.specs.SightsSeen.BlockTelling.{same_sight}
 use Rattle.value_tables.specs.Left.{FileSide}
 use Rattle.value_tables.specs.Left.FileSide.{NoFile, PastEnd, OfLine}
 

@@ -2,13 +2,13 @@
 use Rattle.std.specs.Prelude.{◌≡◌, ◌++◌, ℕ, List}
 use Rattle.word_tables.specs.declared.geometry.Geometry.{Geometry}
 use Rattle.script_text.specs.Action.{Action}
-use Rattle.machine_host.specs.Machine.{Machine}
-use Rattle.machine_host.specs.Commands.{fate}
-use Rattle.outcomes.specs.Stops.{led_to}
+use Rattle.cut_places.specs.MachineModel.Machine.{Machine}
+use Rattle.cut_places.specs.MachineModel.Commands.{fate}
+use Rattle.cut_places.specs.Outcomes.Stops.{led_to}
 use Rattle.cut_places.specs.declared.sight.Sight.{Sight}
 use Rattle.cut_places.specs.Following.{Follows, command_stops}
 use Rattle.cut_places.specs.Places.{Stop}
-use Rattle.asked_reads.specs.declared.read.Read.{Read}
+use Rattle.cut_places.specs.AskedReads.declared.read.Read.{Read}
 use Rattle.value_tables.specs.declared.table.Table.{Table}
 use Rattle.value_tables.specs.Sides.{texts}
 use Rattle.value_tables.specs.Tables.{table_from}

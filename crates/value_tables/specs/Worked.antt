@@ -1,12 +1,12 @@
 -- Worked tables, from the program's script on.
 use Rattle.std.specs.Prelude.{◌≡◌, ℕ, List, [], ◌∷◌, codes}
 use Rattle.script_text.specs.Script.{inputs}
-use Rattle.machine_host.specs.Restarting.{fresh}
-use Rattle.machine_host.specs.Rows.{small, text}
-use Rattle.outcomes.specs.Finds.{armed}
+use Rattle.cut_places.specs.MachineModel.Restarting.{fresh}
+use Rattle.cut_places.specs.MachineModel.WorkedScripts.{small, text}
+use Rattle.cut_places.specs.Outcomes.Finds.{armed}
 use Rattle.cut_places.specs.Places.{cut_places}
-use Rattle.asked_reads.specs.declared.read.Read.{Read}
-use Rattle.asked_reads.specs.declared.read.Read.TheVariants.{Blocks, File, Volume}
+use Rattle.cut_places.specs.AskedReads.declared.read.Read.{Read}
+use Rattle.cut_places.specs.AskedReads.declared.read.Read.TheVariants.{Blocks, File, Volume}
 use Rattle.value_tables.specs.Tables.{table_text}
 
 -- a program on a new device of two volume pages, eight blocks and no file, what it looks at, and its table

@@ -4,12 +4,12 @@ ghost use Rattle.script_text.specs.Action.{action_of};
 ghost use Rattle.script_text.specs.Parsing.{InBounds};
 ghost use Rattle.word_tables.specs.Bounds.{IsValid};
 ghost use Rattle.cut_places.specs.Sights.{files_once_done};
-ghost use Rattle.sights.specs.Units.{block_once_done, line_once_done};
+ghost use Rattle.cut_places.specs.SightsSeen.Units.{block_once_done, line_once_done};
 
 use crate::keeping::keep;
 use cut_places::Sight;
+use cut_places::sights_seen::Unit;
 use script_text::Command;
-use sights::Unit;
 use std::alloc::{AllocError, Global};
 use word_tables::Geometry;
 
@@ -35,7 +35,7 @@ pub fn once_done(
     Ok(after)
 }
 
-/// The same units once more.
+/// Copies of the units.
 pub fn copied<U: Unit>(alloc: Global, units: &[U]) -> Result<Vec<U>, AllocError>
     ensures { IfOk result (λ copies. copies.items ≡ units.now) }
 {

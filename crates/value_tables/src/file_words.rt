@@ -18,7 +18,7 @@ use cut_places::FilesSeen;
 use nvm_base::{Bytes, Name, Span, WORD, print_number};
 use std::alloc::{AllocError, Global};
 
-/// Those of the words of a file that a span touches, of which the lines are held.
+/// Rows of the words of a file that a span touches, of which the lines are held.
 pub fn add_file_words(
     alloc: Global,
     k: u64,

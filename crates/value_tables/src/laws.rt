@@ -4,18 +4,18 @@ ghost use Rattle.std.specs.List.{list_any};
 ghost use Rattle.block_sights.specs.Sights.{Sight};
 ghost use Rattle.script_text.specs.Script.{Input};
 ghost use Rattle.reply_text.specs.declared.reply.Why.TheVariants.{Missing, Range};
-ghost use Rattle.machine_host.specs.Machine.{Machine};
-ghost use Rattle.outcomes.specs.Finds.{IsReady};
-ghost use Rattle.outcomes.specs.Pages.PageReply.{Poison, Refuses, Shows};
-ghost use Rattle.outcomes.specs.Seen.{may_show};
-ghost use Rattle.outcomes.specs.Stops.{IsProgram};
+ghost use Rattle.cut_places.specs.MachineModel.Machine.{Machine};
+ghost use Rattle.cut_places.specs.Outcomes.Finds.{IsReady};
+ghost use Rattle.cut_places.specs.Outcomes.Pages.PageReply.{Poison, Refuses, Shows};
+ghost use Rattle.cut_places.specs.Outcomes.Seen.{may_show};
+ghost use Rattle.cut_places.specs.Outcomes.Stops.{IsProgram};
 ghost use Rattle.cut_places.specs.Places.{Stop, cut_places};
 ghost use Rattle.value_tables.specs.Left.{block_left, file_left, line_left};
 ghost use Rattle.value_tables.specs.Listed.{IsSized, IsSound, block_read, file_word_read, lists_bytes, lists_sight, reply_of, word_read};
 ghost use Rattle.value_tables.specs.Values.{block_values, cells_of, is_missing, is_past, may_be_bad, word_values};
 ghost use Rattle.value_tables.specs.Worked.{WorkedTables};
 
-/// What is listed of a word or of a block is what a look of it alone may show: each value, poison where that may be shown, and
+/// A word or a block is listed with what a look of it alone may show: each value, poison where that may be shown, and
 /// nothing else. Of a word of a file it is also that there may be no such file, or one that ends before it.
 pub fn a_value_is_listed_where_it_may_be_shown()
     ensures words { (off : Machine) (p : ℕ) (bytes : List ℕ) → IsSound off → p < 512 * off.geometry.vpages → length bytes ≡ 8
@@ -34,7 +34,7 @@ pub fn a_value_is_listed_where_it_may_be_shown()
         → may_be_bad (cells_of (file_left off name p)) ≡ may_show (file_word_read name p (Poison (64 * (p / 8)))) off }
 {}
 
-/// So it is at each place of a cut in a program that begins in such a state.
+/// Each place of a cut is such a state, in a program that begins in one.
 pub fn each_place_is_sound()
     ensures { (n : ℕ) (h : Machine) (inputs : List Input) → IsReady h → IsSound h → IsProgram inputs
         → All (λ (stop : Stop). IsSound stop.state) (cut_places n h inputs) }

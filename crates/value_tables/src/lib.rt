@@ -14,8 +14,6 @@ mod rows;
 mod shown;
 mod sides;
 mod table;
-#[cfg(test)]
-mod tests;
 mod touched;
 mod values;
 
@@ -23,5 +21,6 @@ pub use after::copied;
 pub use file_values::FileValues;
 pub use laws::{a_value_is_listed_where_it_may_be_shown, each_place_is_sound, worked_tables};
 pub use listing::table_of;
+pub use outcome_runs as runs;
 pub use refusal::read_refusal;
 pub use row::WORDS;

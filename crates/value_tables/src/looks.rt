@@ -5,7 +5,7 @@ ghost use Rattle.script_text.specs.Action.{action_of};
 ghost use Rattle.word_tables.specs.Bounds.{IsValid};
 ghost use Rattle.cut_places.specs.FileChanges.{left_by};
 ghost use Rattle.cut_places.specs.FileCommands.{files_change};
-ghost use Rattle.sights.specs.Ways.{blocks_way, lines_way};
+ghost use Rattle.cut_places.specs.SightsSeen.Ways.{blocks_way, lines_way};
 ghost use Rattle.value_tables.specs.Left.{Found};
 ghost use Rattle.value_tables.specs.Looking.{IsOf};
 ghost use Rattle.value_tables.specs.Rows.{rows_text};
@@ -13,15 +13,15 @@ ghost use Rattle.value_tables.specs.Sides.{AreBlocksLeft, AreFilesLeft, AreLeft,
 
 use crate::rows::rows_of;
 use crate::sides::Sides;
-use asked_reads::Read;
+use cut_places::reads_asked::Read;
+use cut_places::sights_seen::{BlockSeen, LineSeen, Way};
 use cut_places::{FilesSeen, Sight};
 use nvm_base::Bytes;
 use script_text::Command;
-use sights::{BlockSeen, LineSeen, Way};
 use std::alloc::{AllocError, Global};
 use word_tables::Geometry;
 
-/// Those before a command.
+/// Rows before a command.
 pub fn rows_before(
     alloc: Global,
     geometry: Geometry,
@@ -44,7 +44,7 @@ pub fn rows_before(
     rows_of(alloc, geometry, reads, &sides)
 }
 
-/// Those inside one, which makes this of what is looked at.
+/// Rows inside a command, which makes this of what is looked at.
 pub fn rows_inside(
     alloc: Global,
     geometry: Geometry,

@@ -1,12 +1,12 @@
 ghost use Rattle.std.specs.Prelude.{◌≡◌, ◌+◌, ℕ};
 ghost use Rattle.word_tables.specs.Bounds.{IsValid};
-ghost use Rattle.machine_host.specs.Meaning.{most_refusal};
+ghost use Rattle.cut_places.specs.MachineModel.Meaning.{most_refusal};
 ghost use Rattle.value_tables.specs.Rows.{read_refusal};
 
-use asked_reads::Read;
+use cut_places::reads_asked::Read;
+use cut_places::sights_seen::{MOST_BLOCKS, most_refusal};
 use nvm_base::{MOST, PAGE};
 use reply_text::Why;
-use sights::{MOST_BLOCKS, most_refusal};
 use word_tables::Geometry;
 
 /// Why a read is refused, whatever is stored.

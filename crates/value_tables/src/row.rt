@@ -8,15 +8,15 @@ ghost use Rattle.value_tables.specs.declared.shown.Shown.TheVariants.{Refuses};
 
 use crate::sides::Sides;
 use crate::values::WordValues;
+use cut_places::sights_seen::{LineSeen, print_sight, same_block};
 use nvm_base::{Bytes, LINE, WORD, print_number};
 use reply_text::{Reply, Why, print};
-use sights::{LineSeen, print_sight, same_block};
 use std::alloc::{AllocError, Global};
 
 /// Words of a line.
 pub const WORDS: u64 = LINE / WORD;
 
-/// That of word p, whose line is the one at that place of those looked at.
+/// Row of word p, whose line is the one at that place of those looked at.
 pub fn word_row(alloc: Global, k: u64, p: u64, at: u64, sides: &Sides) -> Result<Bytes, AllocError>
     requires { p < 2 ^ 32 }
     ensures { IfOk result (λ row. row.items
@@ -32,7 +32,7 @@ pub fn word_row(alloc: Global, k: u64, p: u64, at: u64, sides: &Sides) -> Result
     Ok(row)
 }
 
-/// That of block b, which is at that place.
+/// Row of block b, which is at that place.
 pub fn block_row(alloc: Global, k: u64, b: u64, at: u64, sides: &Sides) -> Result<Bytes, AllocError>
     requires { at < length sides.now.blocks.now }
     ensures { IfOk result (λ row. row.items
@@ -44,7 +44,7 @@ pub fn block_row(alloc: Global, k: u64, b: u64, at: u64, sides: &Sides) -> Resul
     Ok(row)
 }
 
-/// That of a read that is refused.
+/// Row of a read that is refused.
 pub fn refused_row(alloc: Global, k: u64, why: Why) -> Result<Bytes, AllocError>
     ensures { (may : Found) → IfOk result (λ row. row.items ≡ row_text may k (Refuses why)) }
 {

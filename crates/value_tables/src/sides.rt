@@ -1,6 +1,6 @@
 // What is looked at where a cut falls.
 use cut_places::FilesSeen;
-use sights::{BlockSeen, LineSeen};
+use cut_places::sights_seen::{BlockSeen, LineSeen};
 
 /// The lines, blocks and files as they are; and the new ones that the command makes of them, where a cut inside it may leave some of
 /// these, or none.

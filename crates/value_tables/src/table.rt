@@ -7,7 +7,7 @@ use cut_places::CutPlace;
 use nvm_base::{Bytes, print_number};
 use std::alloc::{AllocError, Global};
 
-/// What is printed, and the rows of the last place.
+/// Text that is printed, and the rows of the last place.
 #[derive(Drop)]
 pub struct Table {
     pub text: Bytes,

@@ -9,7 +9,7 @@ ghost use Rattle.line_device.specs.Device.{IsPoison, Poisons};
 use line_device::{DeviceFault, Lines};
 use nvm_base::LineNo;
 
-/// The same fault, named by this line.
+/// Copy of the fault, named by this line.
 pub(crate) fn fault_at(fault: DeviceFault, line: LineNo) -> DeviceFault
     ensures outcome { fault_outcome result ≡ fault_outcome fault }
     ensures poison { (behind : ℕ) (bad : Bool) → IsPoison behind bad fault → IsPoison line.0 bad result }
@@ -21,7 +21,7 @@ pub(crate) fn fault_at(fault: DeviceFault, line: LineNo) -> DeviceFault
     }
 }
 
-/// A load of the line behind, whose fault names the line that is shown.
+/// A load of the line below, whose fault names the line that is shown.
 pub(crate) fn load_as<L: Lines>(
     dev: &mut L,
     behind: LineNo,

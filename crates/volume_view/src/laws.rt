@@ -28,7 +28,7 @@ pub fn frames_of_a_view_are_frames_of_the_device()
         ↔ WritesBackBeside (λ n. IsTrue (lines n)) (shown ranges old) (shown ranges new) }
 {}
 
-/// What a view counts, its device counts; and a view that tells of the same loans is one of the same ranges of the same
+/// What a view counts, its device counts; and a view that reports the same loans is one of the same ranges of the same
 /// borrowed device, which has as many lines as before.
 pub fn a_view_counts_as_its_device()
     ensures loans { (name other : GName) (ranges others : List Span) (old new : Device)

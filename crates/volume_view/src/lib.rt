@@ -8,8 +8,6 @@ ghost use Rattle.volume_view.specs.Shown.{shown_count, line_shown};
 mod faults;
 mod laws;
 mod lines;
-#[cfg(test)]
-mod tests;
 
 pub use laws::{
     a_view_counts_as_its_device, each_line_is_shown_once, frames_of_a_view_are_frames_of_the_device,

@@ -11,22 +11,22 @@ use Rattle.block_sights.specs.Sights.Sight.{Whole, Scar, BadLine}
 use Rattle.nvm_model.specs.Blocks.{first_there}
 use Rattle.reply_text.specs.declared.reply.Why.{Why}
 use Rattle.reply_text.specs.declared.reply.Why.TheVariants as because
-use Rattle.machine_host.specs.Meaning.{most_refusal}
-use Rattle.outcomes.specs.Blocks.{all_numbers_read, is_block_reply, is_block_reply_by, is_read_of_blocks, numbers_read}
-use Rattle.outcomes.specs.Pages.{PageRead, all_lines_read, is_given, is_reply, is_reply_by, lines_read}
-use Rattle.asked_reads.specs.declared.question.Question.{Question}
-use Rattle.asked_reads.specs.declared.reads.PageReply.{PageReply as AskedOfPages}
-use Rattle.asked_reads.specs.declared.reads.PageReply.TheVariants as asked_pages
-use Rattle.asked_reads.specs.declared.reads.PageRead.{PageRead as AskedPages}
-use Rattle.asked_reads.specs.declared.reads.BlockReply.{BlockReply as AskedOfBlocks}
-use Rattle.asked_reads.specs.declared.reads.BlockReply.TheVariants as asked_blocks
-use Rattle.asked_reads.specs.declared.reads.BlockRead.{BlockRead as AskedBlocks}
-use Rattle.asked_reads.specs.Asking.{blocks_of, files_asked, volume_asked}
-use Rattle.asked_reads.specs.Reads.{block_reply as reply_of_blocks, blocks_asked, page_reply, pages_asked}
-use Rattle.sights.specs.declared.line_seen.LineSeen.{LineSeen}
-use Rattle.sights.specs.declared.block_seen.BlockSeen.{BlockSeen}
+use Rattle.cut_places.specs.MachineModel.Meaning.{most_refusal}
+use Rattle.cut_places.specs.Outcomes.Blocks.{all_numbers_read, is_block_reply, is_block_reply_by, is_read_of_blocks, numbers_read}
+use Rattle.cut_places.specs.Outcomes.Pages.{PageRead, all_lines_read, is_given, is_reply, is_reply_by, lines_read}
+use Rattle.cut_places.specs.AskedReads.declared.question.Question.{Question}
+use Rattle.cut_places.specs.AskedReads.declared.reads.PageReply.{PageReply as AskedOfPages}
+use Rattle.cut_places.specs.AskedReads.declared.reads.PageReply.TheVariants as asked_pages
+use Rattle.cut_places.specs.AskedReads.declared.reads.PageRead.{PageRead as AskedPages}
+use Rattle.cut_places.specs.AskedReads.declared.reads.BlockReply.{BlockReply as AskedOfBlocks}
+use Rattle.cut_places.specs.AskedReads.declared.reads.BlockReply.TheVariants as asked_blocks
+use Rattle.cut_places.specs.AskedReads.declared.reads.BlockRead.{BlockRead as AskedBlocks}
+use Rattle.cut_places.specs.AskedReads.Asking.{blocks_of, files_asked, volume_asked}
+use Rattle.cut_places.specs.AskedReads.Reads.{block_reply as reply_of_blocks, blocks_asked, page_reply, pages_asked}
+use Rattle.cut_places.specs.SightsSeen.declared.line_seen.LineSeen.{LineSeen}
+use Rattle.cut_places.specs.SightsSeen.declared.block_seen.BlockSeen.{BlockSeen}
 use Rattle.cut_places.specs.declared.sight.Sight.{Sight}
-use Rattle.sights.specs.Units.{block_numbers, line_numbers}
+use Rattle.cut_places.specs.SightsSeen.Units.{block_numbers, line_numbers}
 use Rattle.witnesses.specs.declared.line_kept.LineLeft.{LineLeft}
 use Rattle.witnesses.specs.declared.line_kept.LineLeft.TheVariants as left
 use Rattle.witnesses.specs.Lines.{left_of}

@@ -7,11 +7,11 @@ use Rattle.nvm_model.specs.Numbered.{is_among}
 use Rattle.nvm_model.specs.Storage.{Block}
 use Rattle.block_sights.specs.Sights.{Sight, obstacle_seen, sight}
 use Rattle.block_sights.specs.Sights.Sight.{Whole, Scar, BadLine}
-use Rattle.outcomes.specs.Blocks.{BlockRead, BlockReply, block_fits, is_bad_line, is_scar}
-use Rattle.outcomes.specs.Blocks.BlockReply.{Shows, Scar as AsksScar, BadLine as AsksBadLine, Refuses}
-use Rattle.asked_reads.specs.Fitting.{sight_allows, sight_fits, sight_has}
-use Rattle.sights.specs.declared.block_seen.BlockSeen.{BlockSeen}
-use Rattle.sights.proofs.ShowLemmas.{block_seen}
+use Rattle.cut_places.specs.Outcomes.Blocks.{BlockRead, BlockReply, block_fits, is_bad_line, is_scar}
+use Rattle.cut_places.specs.Outcomes.Blocks.BlockReply.{Shows, Scar as AsksScar, BadLine as AsksBadLine, Refuses}
+use Rattle.cut_places.specs.AskedReads.Fitting.{sight_allows, sight_fits, sight_has}
+use Rattle.cut_places.specs.SightsSeen.declared.block_seen.BlockSeen.{BlockSeen}
+use Rattle.cut_places.proofs.SightsSeen.ShowLemmas.{block_seen}
 use Rattle.witnesses.specs.Telling.{block_reply}
 use Rattle.witnesses.proofs.ListLemmas.{IsAmong, all_from, all_of, range_all, range_each}
 

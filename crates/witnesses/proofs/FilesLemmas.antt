@@ -3,13 +3,13 @@ use Rattle.std.proofs.Common.{◌≡◌, ℕ, true, Option, Some, None, List, []
 use Rattle.std.proofs.lemmas.List.{map-append}
 use Rattle.nvm_model.specs.Listing.{file_of}
 use Rattle.script_text.specs.Action.{Action}
-use Rattle.machine_host.specs.Machine.{Machine}
-use Rattle.durable.specs.Durable.{IsComplete}
-use Rattle.outcomes.specs.Files.{FileRead}
-use Rattle.outcomes.specs.Left.{files_may_pass}
-use Rattle.outcomes.specs.Pages.{lines_read}
-use Rattle.outcomes.specs.Seen.{files_may_show}
-use Rattle.outcomes.specs.Seen.Seen.{of_file}
+use Rattle.cut_places.specs.MachineModel.Machine.{Machine}
+use Rattle.cut_places.specs.Durable.Durable.{IsComplete}
+use Rattle.cut_places.specs.Outcomes.Files.{FileRead}
+use Rattle.cut_places.specs.Outcomes.Left.{files_may_pass}
+use Rattle.cut_places.specs.Outcomes.Pages.{lines_read}
+use Rattle.cut_places.specs.Outcomes.Seen.{files_may_show}
+use Rattle.cut_places.specs.Outcomes.Seen.Seen.{of_file}
 use Rattle.cut_places.specs.FileChanges.{FilesChange}
 use Rattle.cut_places.specs.FileChanges.FilesChange.{Nothing, Makes, Removes, Renames, Resizes, Changes, Maps, Unmaps}
 use Rattle.cut_places.specs.FileChanges.LinesChange.{Puts, Persists, Rewrites, Zeroes, Loses, Weakens, Clears}

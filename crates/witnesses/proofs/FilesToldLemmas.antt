@@ -11,10 +11,10 @@ use Rattle.nvm_model.specs.Cell.{Cell}
 use Rattle.nvm_model.specs.Listing.{file_of}
 use Rattle.reply_text.specs.declared.reply.Why.{Why}
 use Rattle.reply_text.specs.declared.reply.Why.TheVariants as because
-use Rattle.outcomes.specs.Files.{FileRead, reads_of}
-use Rattle.outcomes.specs.Pages.{PageRead, PageReply, all_lines_read, is_refused_for, is_reply, is_reply_by, lines_read}
-use Rattle.outcomes.specs.Pages.PageReply.{Shows, Poison, Refuses}
-use Rattle.asked_reads.specs.Fitting.{cell_fits}
+use Rattle.cut_places.specs.Outcomes.Files.{FileRead, reads_of}
+use Rattle.cut_places.specs.Outcomes.Pages.{PageRead, PageReply, all_lines_read, is_refused_for, is_reply, is_reply_by, lines_read}
+use Rattle.cut_places.specs.Outcomes.Pages.PageReply.{Shows, Poison, Refuses}
+use Rattle.cut_places.specs.AskedReads.Fitting.{cell_fits}
 use Rattle.cut_places.specs.declared.line.FileLine.{FileLine}
 use Rattle.cut_places.specs.FileLines.{line_held}
 use Rattle.cut_places.specs.FileFitting.{now_fits, read_passes, reads_pass, seen_pass}

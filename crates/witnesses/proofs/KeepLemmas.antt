@@ -11,24 +11,24 @@ use Rattle.nvm_model.specs.Storage.{Block}
 use Rattle.block_sights.specs.Sights.{Sight as Look, sight}
 use Rattle.block_sights.specs.Sights.Sight.{Whole}
 use Rattle.script_text.specs.Action.{Action}
-use Rattle.machine_host.specs.Machine.{Machine}
-use Rattle.outcomes.specs.Blocks.{BlockRead, all_numbers_read, block_fits, is_block_reply}
-use Rattle.outcomes.specs.Files.{FileRead}
-use Rattle.outcomes.specs.Pages.{PageRead, all_lines_read, is_reply, line_fits}
-use Rattle.outcomes.specs.Seen.{Seen, files_may_show, may_show}
-use Rattle.outcomes.specs.Seen.Seen.{of_blocks, of_file, of_volume}
-use Rattle.asked_reads.specs.declared.question.Question.{Question}
-use Rattle.asked_reads.specs.Asking.{IsLook, blocks_of, files_asked, may_be_file_reply, may_be_replies, volume_asked}
-use Rattle.asked_reads.specs.Fitting.{cell_fits, sight_fits}
-use Rattle.sights.specs.declared.line_seen.LineSeen.{LineSeen}
-use Rattle.sights.specs.declared.block_seen.BlockSeen.{BlockSeen}
+use Rattle.cut_places.specs.MachineModel.Machine.{Machine}
+use Rattle.cut_places.specs.Outcomes.Blocks.{BlockRead, all_numbers_read, block_fits, is_block_reply}
+use Rattle.cut_places.specs.Outcomes.Files.{FileRead}
+use Rattle.cut_places.specs.Outcomes.Pages.{PageRead, all_lines_read, is_reply, line_fits}
+use Rattle.cut_places.specs.Outcomes.Seen.{Seen, files_may_show, may_show}
+use Rattle.cut_places.specs.Outcomes.Seen.Seen.{of_blocks, of_file, of_volume}
+use Rattle.cut_places.specs.AskedReads.declared.question.Question.{Question}
+use Rattle.cut_places.specs.AskedReads.Asking.{IsLook, blocks_of, files_asked, may_be_file_reply, may_be_replies, volume_asked}
+use Rattle.cut_places.specs.AskedReads.Fitting.{cell_fits, sight_fits}
+use Rattle.cut_places.specs.SightsSeen.declared.line_seen.LineSeen.{LineSeen}
+use Rattle.cut_places.specs.SightsSeen.declared.block_seen.BlockSeen.{BlockSeen}
 use Rattle.cut_places.specs.FileLeaving.{fit_there}
 use Rattle.cut_places.specs.SeesFiles.{are_held}
 use Rattle.cut_places.specs.declared.sight.Sight.{Sight}
 use Rattle.cut_places.specs.Following.{Follows, IsWhole, IsWithin}
-use Rattle.sights.specs.Seeing.{seen}
-use Rattle.sights.specs.Units.{block_may_fit, block_numbers, line_may_fit, line_numbers}
-use Rattle.sights.specs.Ways.{blocks_way, lines_way}
+use Rattle.cut_places.specs.SightsSeen.Seeing.{seen}
+use Rattle.cut_places.specs.SightsSeen.Units.{block_may_fit, block_numbers, line_may_fit, line_numbers}
+use Rattle.cut_places.specs.SightsSeen.Ways.{blocks_way, lines_way}
 use Rattle.cut_places.proofs.StepLemmas.{blocks_in}
 use Rattle.witnesses.specs.declared.block_kept.BlockKept.{BlockKept}
 use Rattle.witnesses.specs.declared.file_kept.FileLineKept.{FileLineKept}

@@ -2,9 +2,9 @@
 use Rattle.std.proofs.Common.{◌≡◌, ℕ, ◌==◌, ◌||◌, Bool, true, false, cond, not, List, Option, Some, None, refl, sym, ap, ◌∙◌, eq-eqb}
 use Rattle.std.specs.List.{list_all}
 use Rattle.std.proofs.lemmas.Bool.{eqb-true, or_left, or_right}
-use Rattle.sights.specs.declared.way.Way.{Way}
-use Rattle.sights.specs.declared.way.Way.TheVariants.{Each, Together, ByPage}
-use Rattle.sights.specs.Ways.{passes_inside}
+use Rattle.cut_places.specs.SightsSeen.declared.way.Way.{Way}
+use Rattle.cut_places.specs.SightsSeen.declared.way.Way.TheVariants.{Each, Together, ByPage}
+use Rattle.cut_places.specs.SightsSeen.Ways.{passes_inside}
 use Rattle.witnesses.specs.Leaving.{stays, unit_left}
 use Rattle.witnesses.proofs.ListLemmas.{IsAmong, all_from, all_of}
 

@@ -7,12 +7,12 @@ use Rattle.std.proofs.lemmas.List.Folds.{list_all-append, list_all-map}
 use Rattle.nvm_model.specs.Cell.{Cell}
 use Rattle.nvm_model.specs.Cell.Cell.{Bad, Kept}
 use Rattle.nvm_model.specs.Numbered.{list_from}
-use Rattle.outcomes.specs.Pages.{PageRead, agrees, all_agree, all_allow_bad, all_allow_good, allows_bad, allows_good, line_fits, words_fit}
-use Rattle.outcomes.specs.Pages.PageReply.{Shows}
-use Rattle.asked_reads.specs.Fitting.{cell_fits}
-use Rattle.sights.specs.declared.line_seen.LineSeen.{LineSeen}
-use Rattle.sights.specs.Seeing.{or_zeros}
-use Rattle.sights.proofs.ShowLemmas.{fits_seen}
+use Rattle.cut_places.specs.Outcomes.Pages.{PageRead, agrees, all_agree, all_allow_bad, all_allow_good, allows_bad, allows_good, line_fits, words_fit}
+use Rattle.cut_places.specs.Outcomes.Pages.PageReply.{Shows}
+use Rattle.cut_places.specs.AskedReads.Fitting.{cell_fits}
+use Rattle.cut_places.specs.SightsSeen.declared.line_seen.LineSeen.{LineSeen}
+use Rattle.cut_places.specs.SightsSeen.Seeing.{or_zeros}
+use Rattle.cut_places.proofs.SightsSeen.ShowLemmas.{fits_seen}
 use Rattle.witnesses.specs.Lines.{first_agreed, left_of}
 use Rattle.witnesses.specs.Telling.{bytes_of_words, line_reply}
 use Rattle.witnesses.proofs.ListLemmas.{IsAmong, all_from, all_of, any_in, any_more, found, range_all, range_each}

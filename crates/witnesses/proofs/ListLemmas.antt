@@ -7,10 +7,10 @@ use Rattle.std.proofs.lemmas.List.Folds.{list_all-append}
 use Rattle.std.proofs.lemmas.List.{map-append, take_more}
 use Rattle.line_device.specs.History.{IsIn}
 use Rattle.std.specs.Str.{bytes_eq}
-use Rattle.outcomes.specs.Files.{reads_of}
-use Rattle.outcomes.specs.Pages.{PageRead}
-use Rattle.asked_reads.specs.Reads.{file_reads_asked, page_read}
-use Rattle.asked_reads.specs.declared.reads.FileRead.{FileRead as Asked}
+use Rattle.cut_places.specs.Outcomes.Files.{reads_of}
+use Rattle.cut_places.specs.Outcomes.Pages.{PageRead}
+use Rattle.cut_places.specs.AskedReads.Reads.{file_reads_asked, page_read}
+use Rattle.cut_places.specs.AskedReads.declared.reads.FileRead.{FileRead as Asked}
 
 -- x is one of them
 abbrev pub IsAmong : {A : Type 0} → A → List A → Type 0

@@ -8,12 +8,12 @@ use Rattle.nvm_model.specs.Page.{Page, cell_of, fill, persist, put}
 use Rattle.nvm_model.specs.Storage.{Block}
 use Rattle.word_tables.specs.declared.geometry.Geometry.{Geometry}
 use Rattle.script_text.specs.Action.{Action}
-use Rattle.machine_host.specs.Commands.{meaning}
-use Rattle.machine_host.specs.Meaning.{BlocksLeft, VolumeLeft}
-use Rattle.machine_host.specs.Meaning.BlocksLeft.{Same, Either, Mixed}
-use Rattle.machine_host.specs.Meaning.VolumeLeft.{Kept, PartStored, PartSynced, AllOrNone, PageByPage}
-use Rattle.outcomes.specs.Left.{blocks_may_pass, blocks_pass, volume_may_pass, volume_passes}
-use Rattle.outcomes.specs.Ways.{all_pass, each_passes, group_passes, groups_pass}
+use Rattle.cut_places.specs.MachineModel.Commands.{meaning}
+use Rattle.cut_places.specs.MachineModel.Meaning.{BlocksLeft, VolumeLeft}
+use Rattle.cut_places.specs.MachineModel.Meaning.BlocksLeft.{Same, Either, Mixed}
+use Rattle.cut_places.specs.MachineModel.Meaning.VolumeLeft.{Kept, PartStored, PartSynced, AllOrNone, PageByPage}
+use Rattle.cut_places.specs.Outcomes.Left.{blocks_may_pass, blocks_pass, volume_may_pass, volume_passes}
+use Rattle.cut_places.specs.Outcomes.Ways.{all_pass, each_passes, group_passes, groups_pass}
 use Rattle.witnesses.proofs.ListLemmas.{IsAmong, all_from, all_of, all_twice}
 
 module _ {A : Type 0} (f g : ℕ → A → Bool) (ns : List ℕ) (more : (n : ℕ) → IsAmong n ns → (x : A) → f n x ≡ true → g n x ≡ true) where

@@ -5,13 +5,13 @@ use Rattle.std.proofs.lemmas.Bool.{and_from, and_parts}
 use Rattle.std.proofs.lemmas.List.Folds.{list_all-append}
 use Rattle.nvm_model.specs.Cell.{Cell}
 use Rattle.nvm_model.specs.Storage.{Block}
-use Rattle.machine_host.specs.Machine.{Machine}
-use Rattle.outcomes.specs.Blocks.{BlockRead, all_numbers_read, block_fits, is_block_reply, numbers_read}
-use Rattle.outcomes.specs.Files.{FileRead}
-use Rattle.outcomes.specs.Left.{blocks_may_pass, volume_may_pass}
-use Rattle.outcomes.specs.Pages.{PageRead, all_lines_read, is_reply, line_fits, lines_read}
-use Rattle.outcomes.specs.Seen.{Seen, block_reads, blocks_may_show, file_reads, files_may_show, may_show, volume_may_show, volume_reads}
-use Rattle.outcomes.specs.Seen.Seen.{of_blocks, of_file, of_volume}
+use Rattle.cut_places.specs.MachineModel.Machine.{Machine}
+use Rattle.cut_places.specs.Outcomes.Blocks.{BlockRead, all_numbers_read, block_fits, is_block_reply, numbers_read}
+use Rattle.cut_places.specs.Outcomes.Files.{FileRead}
+use Rattle.cut_places.specs.Outcomes.Left.{blocks_may_pass, volume_may_pass}
+use Rattle.cut_places.specs.Outcomes.Pages.{PageRead, all_lines_read, is_reply, line_fits, lines_read}
+use Rattle.cut_places.specs.Outcomes.Seen.{Seen, block_reads, blocks_may_show, file_reads, files_may_show, may_show, volume_may_show, volume_reads}
+use Rattle.cut_places.specs.Outcomes.Seen.Seen.{of_blocks, of_file, of_volume}
 use Rattle.witnesses.proofs.ListLemmas.{IsAmong}
 use Rattle.witnesses.proofs.MoreLemmas.{blocks_more, volume_more}
 

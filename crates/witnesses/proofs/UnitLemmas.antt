@@ -10,27 +10,27 @@ use Rattle.block_sights.specs.Sights.{Sight as Look, sight}
 use Rattle.block_sights.specs.Sights.Sight.{Whole}
 use Rattle.block_sights.proofs.SeenLemmas.{seen_size}
 use Rattle.script_text.specs.Action.{Action}
-use Rattle.machine_host.specs.Machine.{Machine}
-use Rattle.machine_host.specs.Commands.{meaning}
-use Rattle.durable.specs.Durable.{HaveEightLines}
-use Rattle.outcomes.specs.Seen.{Seen, may_show}
-use Rattle.outcomes.specs.Stops.{led_to}
-use Rattle.asked_reads.specs.declared.question.Question.{Question}
-use Rattle.asked_reads.specs.Asking.{IsLook, files_asked, may_be_replies}
-use Rattle.sights.specs.declared.line_seen.LineSeen.{LineSeen}
-use Rattle.sights.specs.declared.block_seen.BlockSeen.{BlockSeen}
+use Rattle.cut_places.specs.MachineModel.Machine.{Machine}
+use Rattle.cut_places.specs.MachineModel.Commands.{meaning}
+use Rattle.cut_places.specs.Durable.Durable.{HaveEightLines}
+use Rattle.cut_places.specs.Outcomes.Seen.{Seen, may_show}
+use Rattle.cut_places.specs.Outcomes.Stops.{led_to}
+use Rattle.cut_places.specs.AskedReads.declared.question.Question.{Question}
+use Rattle.cut_places.specs.AskedReads.Asking.{IsLook, files_asked, may_be_replies}
+use Rattle.cut_places.specs.SightsSeen.declared.line_seen.LineSeen.{LineSeen}
+use Rattle.cut_places.specs.SightsSeen.declared.block_seen.BlockSeen.{BlockSeen}
 use Rattle.cut_places.specs.declared.sight.Sight.{Sight}
 use Rattle.cut_places.specs.FileChanges.{FilesChange}
 use Rattle.cut_places.specs.FileCommands.{files_change}
 use Rattle.cut_places.specs.FileLeaving.{fit_there}
-use Rattle.sights.specs.Changing.{line_changed, volume_change}
-use Rattle.sights.specs.ChangingBlocks.{block_changed}
+use Rattle.cut_places.specs.SightsSeen.Changing.{line_changed, volume_change}
+use Rattle.cut_places.specs.SightsSeen.ChangingBlocks.{block_changed}
 use Rattle.cut_places.specs.Following.{Follows, IsWhole, IsWithin}
 use Rattle.cut_places.specs.Sights.{shows, shows_inside}
-use Rattle.sights.specs.Units.{AreAmong, AreBlocks, AreLines, AreWithin, block_may_fit, line_may_fit}
-use Rattle.sights.specs.Ways.{blocks_way, lines_way, passes_inside}
-use Rattle.sights.proofs.BlockChangeLemmas.{blocks_changed}
-use Rattle.sights.proofs.InsideLemmas.{AreThere}
+use Rattle.cut_places.specs.SightsSeen.Units.{AreAmong, AreBlocks, AreLines, AreWithin, block_may_fit, line_may_fit}
+use Rattle.cut_places.specs.SightsSeen.Ways.{blocks_way, lines_way, passes_inside}
+use Rattle.cut_places.proofs.SightsSeen.BlockChangeLemmas.{blocks_changed}
+use Rattle.cut_places.proofs.SightsSeen.InsideLemmas.{AreThere}
 use Rattle.cut_places.proofs.MayShowLemmas.{shows_now, shows_within}
 use Rattle.cut_places.proofs.StepLemmas.{blocks_in, lines_of}
 use Rattle.witnesses.specs.Blocks.{block_made}

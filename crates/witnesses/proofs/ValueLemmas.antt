@@ -3,7 +3,7 @@ use Rattle.std.proofs.Common.{◌≡◌, ◌==◌, ◌&&◌, ◌||◌, ◌+◌, 
 use Rattle.std.specs.List.{list_any}
 use Rattle.nvm_model.specs.Cell.{Cell}
 use Rattle.nvm_model.specs.Cell.Cell.{Bad, Kept}
-use Rattle.outcomes.specs.Pages.{PageRead, all_agree}
+use Rattle.cut_places.specs.Outcomes.Pages.{PageRead, all_agree}
 use Rattle.line_histories.specs.declared.log.Stored.{Stored}
 use Rattle.line_histories.specs.Held.{HasHistory}
 use Rattle.line_histories.specs.Log.{history_in}

@@ -4,8 +4,8 @@ use Rattle.std.specs.Int.{byte_at}
 use Rattle.std.proofs.lemmas.Bool.{and_from, and_parts, and_right, eqb-true, le-leb, le-ltb, leb-true, lt-ltb, ltb-true, ne_eqb}
 use Rattle.nvm_model.specs.Cell.{touches}
 use Rattle.nvm_model.specs.Numbered.{is_among, list_from}
-use Rattle.outcomes.specs.Pages.{PageRead, PageReply, agrees, all_agree, allows_bad, allows_good}
-use Rattle.outcomes.specs.Pages.PageReply.{Shows, Poison, Refuses}
+use Rattle.cut_places.specs.Outcomes.Pages.{PageRead, PageReply, agrees, all_agree, allows_bad, allows_good}
+use Rattle.cut_places.specs.Outcomes.Pages.PageReply.{Shows, Poison, Refuses}
 use Rattle.witnesses.specs.declared.line_kept.LineLeft.{LineLeft}
 use Rattle.witnesses.specs.declared.line_kept.LineLeft.TheVariants as left
 use Rattle.witnesses.specs.Telling.{bytes_of_words, line_reply}

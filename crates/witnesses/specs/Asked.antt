@@ -1,8 +1,8 @@
 -- The reads that ask about the lines of one storage, and how its lines are named in a text.
 use Rattle.std.specs.Prelude.{ℕ, List, [], ◌∷◌, ◌++◌, codes}
-use Rattle.outcomes.specs.Files.{reads_of}
-use Rattle.outcomes.specs.Pages.{PageRead}
-use Rattle.asked_reads.specs.Reads.{file_reads_asked, pages_asked}
+use Rattle.cut_places.specs.Outcomes.Files.{reads_of}
+use Rattle.cut_places.specs.Outcomes.Pages.{PageRead}
+use Rattle.cut_places.specs.AskedReads.Reads.{file_reads_asked, pages_asked}
 use Rattle.witnesses.specs.declared.asked.Asked.{Asked}
 use Rattle.witnesses.specs.declared.asked.Asked.TheVariants.{OfFile, OfVolume}
 

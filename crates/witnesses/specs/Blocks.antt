@@ -1,13 +1,13 @@
 -- What is kept of blocks.
 use Rattle.std.specs.Prelude.{ℕ, not, List, map, Option, option_and_then}
 use Rattle.word_tables.specs.declared.geometry.Geometry.{Geometry}
-use Rattle.sights.specs.BlockTelling.{same_sight}
+use Rattle.cut_places.specs.SightsSeen.BlockTelling.{same_sight}
 use Rattle.script_text.specs.Action.{Action}
-use Rattle.outcomes.specs.Blocks.{BlockRead}
-use Rattle.asked_reads.specs.Fitting.{sight_fits}
-use Rattle.sights.specs.declared.block_seen.BlockSeen.{BlockSeen}
-use Rattle.sights.specs.Units.{block_once_done}
-use Rattle.sights.specs.Ways.{blocks_way}
+use Rattle.cut_places.specs.Outcomes.Blocks.{BlockRead}
+use Rattle.cut_places.specs.AskedReads.Fitting.{sight_fits}
+use Rattle.cut_places.specs.SightsSeen.declared.block_seen.BlockSeen.{BlockSeen}
+use Rattle.cut_places.specs.SightsSeen.Units.{block_once_done}
+use Rattle.cut_places.specs.SightsSeen.Ways.{blocks_way}
 use Rattle.witnesses.specs.declared.block_kept.BlockKept.{BlockKept}
 use Rattle.witnesses.specs.Leaving.{made_by, unit_left}
 

@@ -4,9 +4,9 @@ use Rattle.nvm_model.specs.Cell.{Cell}
 use Rattle.nvm_model.specs.Cell.Cell.{Kept}
 use Rattle.script_text.specs.Action.{Action}
 use Rattle.script_text.specs.Action.Action.{Create, Delete, FAtomic, FSync, FWrite, Rename}
-use Rattle.outcomes.specs.Files.{FileRead}
-use Rattle.outcomes.specs.Pages.{PageReply}
-use Rattle.outcomes.specs.Pages.PageReply.{Shows, Poison}
+use Rattle.cut_places.specs.Outcomes.Files.{FileRead}
+use Rattle.cut_places.specs.Outcomes.Pages.{PageReply}
+use Rattle.cut_places.specs.Outcomes.Pages.PageReply.{Shows, Poison}
 use Rattle.cut_places.specs.FilesState.{FileState}
 use Rattle.witnesses.specs.Files.{files_kept}
 use Rattle.witnesses.specs.Rows.{read_of, word_with}

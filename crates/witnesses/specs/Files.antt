@@ -3,8 +3,8 @@ use Rattle.std.specs.Prelude.{◌/◌, ℕ, List, flat_map, map, nat_lt, replica
 use Rattle.nvm_model.specs.Cell.{Cell}
 use Rattle.nvm_model.specs.Listing.{file_of}
 use Rattle.script_text.specs.Action.{Action}
-use Rattle.outcomes.specs.Files.{FileRead, reads_of}
-use Rattle.outcomes.specs.Pages.{PageRead, lines_read}
+use Rattle.cut_places.specs.Outcomes.Files.{FileRead, reads_of}
+use Rattle.cut_places.specs.Outcomes.Pages.{PageRead, lines_read}
 use Rattle.cut_places.specs.FileCommands.{files_change}
 use Rattle.cut_places.specs.FileLines.{line_held}
 use Rattle.cut_places.specs.FileLeaving.{files_left}

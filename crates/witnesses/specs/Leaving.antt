@@ -2,8 +2,8 @@
 use Rattle.std.specs.Prelude.{◌==◌, ◌||◌, ℕ, Bool, true, not, List, Option, Some, None, if◌then◌else◌}
 use Rattle.std.specs.List.{list_all}
 use Rattle.script_text.specs.Action.{Action}
-use Rattle.sights.specs.declared.way.Way.{Way}
-use Rattle.sights.specs.declared.way.Way.TheVariants.{Each, Together, ByPage}
+use Rattle.cut_places.specs.SightsSeen.declared.way.Way.{Way}
+use Rattle.cut_places.specs.SightsSeen.declared.way.Way.TheVariants.{Each, Together, ByPage}
 
 -- A unit stays as it is where the test passes it so, or all units that are changed together with it.
 abbrev pub stays : {A : Type 0} → Option Way → (A → Bool) → (A → ℕ) → List A → A → Bool

@@ -6,11 +6,11 @@ use Rattle.nvm_model.specs.Numbered.{list_from}
 use Rattle.nvm_model.specs.Cell.{Cell}
 use Rattle.nvm_model.specs.Cell.Cell.{Bad, Kept}
 use Rattle.script_text.specs.Action.{Action}
-use Rattle.outcomes.specs.Pages.{PageRead, all_agree}
-use Rattle.asked_reads.specs.Fitting.{cell_fits}
-use Rattle.sights.specs.declared.line_seen.LineSeen.{LineSeen}
-use Rattle.sights.specs.Units.{line_once_done}
-use Rattle.sights.specs.Ways.{lines_way}
+use Rattle.cut_places.specs.Outcomes.Pages.{PageRead, all_agree}
+use Rattle.cut_places.specs.AskedReads.Fitting.{cell_fits}
+use Rattle.cut_places.specs.SightsSeen.declared.line_seen.LineSeen.{LineSeen}
+use Rattle.cut_places.specs.SightsSeen.Units.{line_once_done}
+use Rattle.cut_places.specs.SightsSeen.Ways.{lines_way}
 use Rattle.witnesses.specs.declared.line_kept.LineLeft.{LineLeft}
 use Rattle.witnesses.specs.declared.line_kept.LineLeft.TheVariants as left
 use Rattle.witnesses.specs.declared.line_kept.LineKept.{LineKept}

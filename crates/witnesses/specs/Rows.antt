@@ -6,13 +6,13 @@ use Rattle.nvm_model.specs.Cell.Cell.{Kept}
 use Rattle.block_sights.specs.Sights.Sight.{Whole}
 use Rattle.script_text.specs.Action.{Action}
 use Rattle.script_text.specs.Action.Action.{BScar, BWrite, VDiscard, VDiscardIf, VStore, VSync}
-use Rattle.machine_host.specs.Rows.{small}
-use Rattle.outcomes.specs.Blocks.{BlockRead}
-use Rattle.outcomes.specs.Blocks.BlockReply.{Shows as ShowsBlocks, Scar}
-use Rattle.outcomes.specs.Pages.{PageRead, PageReply}
-use Rattle.outcomes.specs.Pages.PageReply.{Shows, Poison}
-use Rattle.sights.specs.declared.line_seen.LineSeen.{LineSeen}
-use Rattle.sights.specs.declared.block_seen.BlockSeen.{BlockSeen}
+use Rattle.cut_places.specs.MachineModel.WorkedScripts.{small}
+use Rattle.cut_places.specs.Outcomes.Blocks.{BlockRead}
+use Rattle.cut_places.specs.Outcomes.Blocks.BlockReply.{Shows as ShowsBlocks, Scar}
+use Rattle.cut_places.specs.Outcomes.Pages.{PageRead, PageReply}
+use Rattle.cut_places.specs.Outcomes.Pages.PageReply.{Shows, Poison}
+use Rattle.cut_places.specs.SightsSeen.declared.line_seen.LineSeen.{LineSeen}
+use Rattle.cut_places.specs.SightsSeen.declared.block_seen.BlockSeen.{BlockSeen}
 use Rattle.witnesses.specs.Blocks.{block_kept}
 use Rattle.witnesses.specs.Lines.{line_kept}
 use Rattle.witnesses.specs.Texts.{blocks_text, lines_text}

@@ -4,13 +4,13 @@ use Rattle.std.specs.Int.{byte_at}
 use Rattle.nvm_model.specs.Numbered.{list_from}
 use Rattle.block_sights.specs.Sights.{Sight}
 use Rattle.block_sights.specs.Sights.Sight.{Whole, Scar, BadLine}
-use Rattle.outcomes.specs.Pages.{PageRead, PageReply}
-use Rattle.outcomes.specs.Pages.PageReply.{Shows, Poison}
-use Rattle.outcomes.specs.Blocks.{BlockRead, BlockReply}
-use Rattle.outcomes.specs.Blocks.BlockReply.{Shows as ShowsBlock, Scar as TellsScar, BadLine as TellsBadLine}
-use Rattle.outcomes.specs.Files.{FileRead}
-use Rattle.outcomes.specs.Seen.{Seen}
-use Rattle.outcomes.specs.Seen.Seen.{of_blocks, of_file, of_volume}
+use Rattle.cut_places.specs.Outcomes.Pages.{PageRead, PageReply}
+use Rattle.cut_places.specs.Outcomes.Pages.PageReply.{Shows, Poison}
+use Rattle.cut_places.specs.Outcomes.Blocks.{BlockRead, BlockReply}
+use Rattle.cut_places.specs.Outcomes.Blocks.BlockReply.{Shows as ShowsBlock, Scar as TellsScar, BadLine as TellsBadLine}
+use Rattle.cut_places.specs.Outcomes.Files.{FileRead}
+use Rattle.cut_places.specs.Outcomes.Seen.{Seen}
+use Rattle.cut_places.specs.Outcomes.Seen.Seen.{of_blocks, of_file, of_volume}
 use Rattle.witnesses.specs.declared.line_kept.LineLeft.{LineLeft}
 use Rattle.witnesses.specs.declared.line_kept.LineLeft.TheVariants as left
 use Rattle.witnesses.specs.declared.line_kept.LineKept.{LineKept}

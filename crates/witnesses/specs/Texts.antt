@@ -6,10 +6,10 @@ use Rattle.std.specs.Str.{bytes_eq}
 use Rattle.nvm_base.specs.Data.{data_text}
 use Rattle.nvm_model.specs.Numbered.{is_among}
 use Rattle.block_sights.specs.Sights.{Sight}
-use Rattle.sights.specs.BlockTelling.{sight_text}
-use Rattle.outcomes.specs.Files.{FileRead, reads_of}
-use Rattle.outcomes.specs.Pages.{PageRead, PageReply}
-use Rattle.outcomes.specs.Pages.PageReply.{Shows, Poison, Refuses}
+use Rattle.cut_places.specs.SightsSeen.BlockTelling.{sight_text}
+use Rattle.cut_places.specs.Outcomes.Files.{FileRead, reads_of}
+use Rattle.cut_places.specs.Outcomes.Pages.{PageRead, PageReply}
+use Rattle.cut_places.specs.Outcomes.Pages.PageReply.{Shows, Poison, Refuses}
 use Rattle.witnesses.specs.declared.line_kept.LineLeft.{LineLeft}
 use Rattle.witnesses.specs.declared.line_kept.LineLeft.TheVariants as left
 use Rattle.witnesses.specs.declared.line_kept.LineKept.{LineKept}

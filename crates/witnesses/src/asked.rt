@@ -1,15 +1,15 @@
 // The reads that ask about the lines of one storage.
 ghost use Rattle.std.specs.Prelude.{◌≡◌, ◌++◌, ◌<◌, ◌^◌, OnOk};
-ghost use Rattle.outcomes.specs.Files.{reads_of};
-ghost use Rattle.outcomes.specs.Pages.{all_agree};
-ghost use Rattle.asked_reads.specs.Reads.{file_reads_asked, pages_asked};
+ghost use Rattle.cut_places.specs.Outcomes.Files.{reads_of};
+ghost use Rattle.cut_places.specs.Outcomes.Pages.{all_agree};
+ghost use Rattle.cut_places.specs.AskedReads.Reads.{file_reads_asked, pages_asked};
 ghost use Rattle.witnesses.specs.Asked.{file_head, head_of, reads_in};
 ghost use Rattle.witnesses.specs.Texts.{is_asked};
 
 use crate::asking::asks_word;
-use asked_reads::{FileRead, PageRead};
+use cut_places::reads_asked::{FileRead, PageRead};
+use cut_places::sights_seen::{agree, agrees};
 use nvm_base::{Bytes, Name};
-use sights::{agree, agrees};
 use std::alloc::AllocError;
 
 /// The reads of the volume, or those of the file of a name.

@@ -2,11 +2,11 @@
 ghost use Rattle.std.specs.Prelude.{◌≡◌, ◌*◌, ◌<◌, ◌^◌};
 ghost use Rattle.std.specs.List.{list_any, range_with_len};
 ghost use Rattle.nvm_model.specs.Numbered.{is_among};
-ghost use Rattle.asked_reads.specs.Reads.{page_reply};
+ghost use Rattle.cut_places.specs.AskedReads.Reads.{page_reply};
 ghost use Rattle.witnesses.specs.Texts.{asks_word};
 
-use asked_reads::{PageRead, PageReply};
-use sights::is_among;
+use cut_places::reads_asked::{PageRead, PageReply};
+use cut_places::sights_seen::is_among;
 
 /// Whether it is not refused, and has a byte of word p.
 pub fn asks_word(read: &PageRead, p: u64) -> bool

@@ -3,19 +3,19 @@ ghost use Rattle.std.specs.Prelude.{◌≡◌, IfOk, map, option_map, if◌then�
 ghost use Rattle.std.specs.Option.{option_copied};
 ghost use Rattle.word_tables.specs.Bounds.{IsValid};
 ghost use Rattle.script_text.specs.Action.{action_of};
-ghost use Rattle.asked_reads.specs.Asking.{blocks_of};
-ghost use Rattle.asked_reads.specs.Program.{IsBounded};
+ghost use Rattle.cut_places.specs.AskedReads.Asking.{blocks_of};
+ghost use Rattle.cut_places.specs.AskedReads.Program.{IsBounded};
 ghost use Rattle.witnesses.specs.Blocks.{block_kept, block_made, kept_block};
 
 use crate::block_kept::BlockKept;
 use crate::staying::{make, stays};
-use asked_reads::Question;
+use cut_places::reads_asked::Question;
+use cut_places::sights_seen::{BlockSeen, Way, same_block};
 use script_text::Command;
-use sights::{BlockSeen, Way, same_block};
 use std::alloc::{AllocError, Global};
 use word_tables::Geometry;
 
-/// What is kept of each.
+/// Keeps of each block what may be left.
 pub fn keep_blocks(
     alloc: Global,
     question: &Question,

@@ -4,8 +4,8 @@ ghost use Rattle.witnesses.specs.Texts.{block_text, whole_text};
 
 use crate::block_kept::BlockKept;
 use block_sights::HeldBlock;
+use cut_places::sights_seen::print_sight;
 use nvm_base::{Bytes, print_number};
-use sights::print_sight;
 use std::alloc::AllocError;
 
 /// Appends the block, where it could be otherwise.

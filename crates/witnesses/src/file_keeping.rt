@@ -3,20 +3,20 @@ ghost use Rattle.std.specs.Prelude.{◌≡◌, ◌++◌, IfOk, OnOk, flat_map, o
 ghost use Rattle.std.specs.List.{list_all};
 ghost use Rattle.std.specs.Option.{option_copied};
 ghost use Rattle.script_text.specs.Action.{action_of};
-ghost use Rattle.asked_reads.specs.Asking.{may_be_file_reply};
-ghost use Rattle.asked_reads.specs.Program.{IsBounded};
-ghost use Rattle.asked_reads.specs.Reads.{file_read, file_reads_asked};
+ghost use Rattle.cut_places.specs.AskedReads.Asking.{may_be_file_reply};
+ghost use Rattle.cut_places.specs.AskedReads.Program.{IsBounded};
+ghost use Rattle.cut_places.specs.AskedReads.Reads.{file_read, file_reads_asked};
 ghost use Rattle.witnesses.specs.Files.{files_kept, files_made, read_kept};
 
 use crate::file_kept::FileLineKept;
 use crate::file_lines::keep_lines;
-use asked_reads::{FileRead, PageReply};
 use cut_places::FilesSeen;
+use cut_places::reads_asked::{FileRead, PageReply};
 use nvm_base::Span;
 use script_text::Command;
 use std::alloc::{AllocError, Global};
 
-/// What is kept of each line that a read looks at which is not refused, read by read.
+/// Keeps of each line what may be left, where a read looks at it that is not refused, read by read.
 pub fn keep_files(
     alloc: Global,
     reads: &[FileRead],

@@ -3,7 +3,7 @@ ghost use Rattle.std.specs.Prelude.{◌≡◌, ◌++◌, ◌<◌, ◌≤◌, ◌
 ghost use Rattle.std.specs.List.{range_with_len};
 ghost use Rattle.std.specs.Option.{option_copied};
 ghost use Rattle.nvm_base.specs.Units.{units_of};
-ghost use Rattle.asked_reads.specs.Reads.{file_reads_asked};
+ghost use Rattle.cut_places.specs.AskedReads.Reads.{file_reads_asked};
 ghost use Rattle.witnesses.specs.Asked.{reads_in};
 ghost use Rattle.witnesses.specs.Files.{left_at, line_kept_of, line_there};
 
@@ -11,8 +11,8 @@ use crate::asked::Asked;
 use crate::file_kept::FileLineKept;
 use crate::line_kept::LineLeft;
 use crate::words::{free_words, line_left};
-use asked_reads::FileRead;
 use cut_places::FileSeen;
+use cut_places::reads_asked::FileRead;
 use line_histories::HeldLine;
 use nvm_base::{LINE, Name, PAGE, Span, lines_of};
 use std::alloc::AllocError;

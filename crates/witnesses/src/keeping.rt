@@ -3,12 +3,12 @@ ghost use Rattle.std.specs.Prelude.{◌≡◌, ◌++◌, true, IfOk, List, map, 
 ghost use Rattle.std.specs.Option.{option_copied};
 ghost use Rattle.word_tables.specs.Bounds.{IsValid};
 ghost use Rattle.script_text.specs.Action.{action_of};
-ghost use Rattle.machine_host.specs.Machine.{Machine};
-ghost use Rattle.outcomes.specs.Seen.{Seen, may_show};
-ghost use Rattle.asked_reads.specs.Asking.{IsLook, blocks_of, files_asked, may_be_replies, volume_asked};
-ghost use Rattle.asked_reads.specs.Program.{IsBounded};
+ghost use Rattle.cut_places.specs.MachineModel.Machine.{Machine};
+ghost use Rattle.cut_places.specs.Outcomes.Seen.{Seen, may_show};
+ghost use Rattle.cut_places.specs.AskedReads.Asking.{IsLook, blocks_of, files_asked, may_be_replies, volume_asked};
+ghost use Rattle.cut_places.specs.AskedReads.Program.{IsBounded};
 ghost use Rattle.cut_places.specs.Following.{Follows, IsWhole, IsWithin};
-ghost use Rattle.sights.specs.Units.{block_numbers, line_numbers};
+ghost use Rattle.cut_places.specs.SightsSeen.Units.{block_numbers, line_numbers};
 ghost use Rattle.witnesses.specs.Blocks.{block_kept, numbers_of_blocks};
 ghost use Rattle.witnesses.specs.Files.{files_kept, places_of, places_read};
 ghost use Rattle.witnesses.specs.Lines.{line_kept, numbers_of_lines};
@@ -19,14 +19,14 @@ use crate::block_keeping::keep_blocks;
 use crate::file_keeping::keep_files;
 use crate::kept::Kept;
 use crate::line_keeping::keep_lines;
-use asked_reads::Question;
 use cut_places::Sight;
+use cut_places::reads_asked::Question;
 use script_text::Command;
 use std::alloc::{AllocError, Global};
 use word_tables::Geometry;
 
 /// How a cut may leave what the question asks: one that falls now, or inside a command. What is kept of a line is the same wherever
-/// the line is looked at: it is told by the question, the line and how the cut leaves lines.
+/// the line is looked at: it is determined by the question, the line and how the cut leaves lines.
 pub fn keep(
     alloc: Global,
     question: &Question,

@@ -10,8 +10,6 @@ mod block_text;
 mod file_keeping;
 mod file_kept;
 mod file_lines;
-#[cfg(test)]
-mod file_tests;
 mod keeping;
 mod kept;
 mod laws;
@@ -19,8 +17,6 @@ mod line_keeping;
 mod line_kept;
 mod line_text;
 mod staying;
-#[cfg(test)]
-mod tests;
 mod text;
 mod words;
 

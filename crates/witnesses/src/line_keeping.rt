@@ -3,21 +3,21 @@ ghost use Rattle.std.specs.Prelude.{◌≡◌, IfOk, map, option_map, if◌then�
 ghost use Rattle.std.specs.Option.{option_copied};
 ghost use Rattle.word_tables.specs.Bounds.{IsValid};
 ghost use Rattle.script_text.specs.Action.{action_of};
-ghost use Rattle.asked_reads.specs.Asking.{volume_asked};
-ghost use Rattle.asked_reads.specs.Program.{IsBounded};
+ghost use Rattle.cut_places.specs.AskedReads.Asking.{volume_asked};
+ghost use Rattle.cut_places.specs.AskedReads.Program.{IsBounded};
 ghost use Rattle.witnesses.specs.Lines.{kept_line, line_kept, line_made};
 
 use crate::asked::Asked;
 use crate::line_kept::LineKept;
 use crate::staying::{make, stays};
 use crate::words::{free_words, line_left};
-use asked_reads::Question;
+use cut_places::reads_asked::Question;
+use cut_places::sights_seen::{LineSeen, Way};
 use script_text::Command;
-use sights::{LineSeen, Way};
 use std::alloc::{AllocError, Global};
 use word_tables::Geometry;
 
-/// What is kept of each.
+/// Keeps of each line what may be left.
 pub fn keep_lines(
     alloc: Global,
     question: &Question,

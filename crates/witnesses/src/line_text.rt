@@ -1,14 +1,14 @@
 // The text of a line that is kept, of the volume or of a file.
 ghost use Rattle.std.specs.Prelude.{◌≡◌, ◌<◌, ◌++◌, ◌^◌, OnOk, flat_map, false, slice_index_or};
 ghost use Rattle.std.specs.List.{range_with_len};
-ghost use Rattle.asked_reads.specs.Reads.{file_reads_asked, pages_asked};
+ghost use Rattle.cut_places.specs.AskedReads.Reads.{file_reads_asked, pages_asked};
 ghost use Rattle.witnesses.specs.Asked.{head_of, reads_in};
 ghost use Rattle.witnesses.specs.Texts.{asked_text, bad_text, file_line_text, left_text, line_text, word_text};
 
 use crate::asked::Asked;
 use crate::file_kept::FileLineKept;
 use crate::line_kept::{LineKept, LineLeft};
-use asked_reads::{FileRead, PageRead};
+use cut_places::reads_asked::{FileRead, PageRead};
 use nvm_base::{Bytes, print_bytes, print_number};
 use std::alloc::AllocError;
 
@@ -20,7 +20,7 @@ pub fn print_line(reads: &[PageRead], kept: &LineKept, out: &mut Bytes) -> Resul
     print_left(&asked, kept.number, &kept.left, &kept.free, out)
 }
 
-/// The same of a line of a file.
+/// Text of a line of a file.
 pub fn print_file_line(
     reads: &[FileRead],
     kept: &FileLineKept,

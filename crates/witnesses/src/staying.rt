@@ -3,12 +3,12 @@ ghost use Rattle.std.specs.Prelude.{◌≡◌, IfOk, option_map};
 ghost use Rattle.std.specs.Option.{option_copied};
 ghost use Rattle.word_tables.specs.Bounds.{IsValid};
 ghost use Rattle.script_text.specs.Action.{action_of};
-ghost use Rattle.asked_reads.specs.Program.{IsBounded};
+ghost use Rattle.cut_places.specs.AskedReads.Program.{IsBounded};
 ghost use Rattle.witnesses.specs.Leaving.{made_by, stays};
 
-use asked_reads::Question;
+use cut_places::reads_asked::Question;
+use cut_places::sights_seen::{Unit, Way, all_fit, page_fits};
 use script_text::Command;
-use sights::{Unit, Way, all_fit, page_fits};
 use std::alloc::AllocError;
 use word_tables::Geometry;
 

@@ -1,7 +1,7 @@
 // What is kept, as it is printed behind an answer.
 ghost use Rattle.std.specs.Prelude.{◌≡◌, ◌++◌, IfOk, OnOk};
-ghost use Rattle.asked_reads.specs.Asking.{files_asked, volume_asked};
-ghost use Rattle.asked_reads.specs.Reads.{file_reads_asked, pages_asked};
+ghost use Rattle.cut_places.specs.AskedReads.Asking.{files_asked, volume_asked};
+ghost use Rattle.cut_places.specs.AskedReads.Reads.{file_reads_asked, pages_asked};
 ghost use Rattle.witnesses.specs.Texts.{block_text, blocks_text, file_line_text, files_text, kept_text, line_text, lines_text, same_block, same_file_line, same_line, unless_told};
 
 use crate::block_kept::BlockKept;
@@ -10,7 +10,7 @@ use crate::file_kept::FileLineKept;
 use crate::kept::Kept;
 use crate::line_kept::LineKept;
 use crate::line_text::{print_file_line, print_line};
-use asked_reads::{FileRead, PageRead, Question};
+use cut_places::reads_asked::{FileRead, PageRead, Question};
 use nvm_base::Bytes;
 use std::alloc::{AllocError, Global};
 

@@ -7,9 +7,9 @@ use std::alloc::AllocError;
 /// Why a log could not be mounted.
 #[derive(Clone, Copy, Debug, PartialEq, Eq)]
 pub enum LogFault {
-    /// This line of log or home is bad.
+    /// Line of log or home that is bad.
     Poisoned(LineNo),
-    /// This place of the log is the first that is wrong.
+    /// First place of the log that is wrong.
     Bad(u64),
     /// The device failed.
     Failed,

@@ -29,8 +29,6 @@ mod mounting;
 mod places;
 mod protocol;
 mod reading;
-#[cfg(test)]
-mod tests;
 
 pub use area::LogArea;
 pub use fault::LogFault;

@@ -9,7 +9,7 @@ ghost use Rattle.word_log.specs.Examples.{small_area, zeros_but, home_words};
 use crate::LogArea;
 use crate::protocol::OPEN;
 
-/// Gives the home words the values of so many entries.
+/// Gives the home words the values of a number of entries.
 fn write_home(area: LogArea, log: &[u64], home: &mut [u64], count: u64)
     requires shape { IsShaped area }
     requires log { length log.now ≡ 8 * area.log.len }

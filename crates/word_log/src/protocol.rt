@@ -17,10 +17,10 @@ use crate::home::apply;
 use line_device::Lines;
 use line_words::{Interruption, persist_line, store_word};
 
-/// A gate behind which no entry counts.
+/// A gate after which no entry counts.
 pub const CLOSED: u64 = 0;
 
-/// A gate behind which the entries count.
+/// A gate after which the entries count.
 pub const OPEN: u64 = 1;
 
 /// Sets the gate, and makes it durable.

@@ -6,12 +6,12 @@ pub const LEAST_BLOCKS: u64 = 8;
 
 pub const MOST_BLOCKS: u64 = 4096;
 
-/// The same of volume pages.
+/// Fewest pages of the volume.
 pub const LEAST_VPAGES: u64 = 2;
 
 pub const MOST_VPAGES: u64 = 256;
 
-/// The same of physical file pages.
+/// Fewest physical pages of files.
 pub const LEAST_FPAGES: u64 = 32;
 
 pub const MOST_FPAGES: u64 = 1024;

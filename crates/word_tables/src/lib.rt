@@ -14,6 +14,3 @@ pub use geometry::{
 pub use superblock::{LAYOUT, MARK, WORD_BYTES, superblocks_tell_their_sizes};
 pub use volume::volume_lines_differ;
 pub use words::places_differ;
-
-#[cfg(test)]
-mod tests;

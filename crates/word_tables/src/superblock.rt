@@ -33,7 +33,7 @@ impl Geometry {
     }
 }
 
-/// A law: a superblock tells its sizes, and words of which none is wrong are a superblock.
+/// A law: a superblock has its sizes, and words of which none is wrong are a superblock.
 pub fn superblocks_tell_their_sizes()
     ensures told { (geo : Geometry) → IsValid geo → TellsItsSizes geo }
     ensures right { (lines : ℕ) (word : ℕ → ℕ) → first_wrong_word lines word ≡ None → IsSuperblock lines word }

@@ -5,8 +5,6 @@ mod draws;
 mod rounds;
 mod rows;
 mod summary;
-#[cfg(test)]
-mod tests;
 mod totals;
 mod workload;
 

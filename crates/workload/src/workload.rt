@@ -41,7 +41,7 @@ impl Workload {
     ghost use Rattle.workload.specs.Due.{Gives};
     ghost use Rattle.workload.specs.Lines.{lines};
 
-    /// The workload of that seed, with so many rounds.
+    /// The workload of that seed, with a number of rounds.
     pub fn new(seed: u64, count: u64) -> Self
         ensures { result ≡ lines seed count }
     {

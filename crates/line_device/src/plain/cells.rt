@@ -6,7 +6,7 @@ use crate::{Choice, LineState};
 use nvm_base::LineNo;
 use std::alloc::{AllocError, Global};
 
-/// What is known of a line beside its bytes.
+/// Marks of a line beside its bytes.
 #[derive(Clone, Copy, Debug, PartialEq, Eq)]
 pub enum Mark {
     Healthy,
@@ -44,7 +44,7 @@ impl Cells {
         }
     }
 
-    /// So many lines of zeros.
+    /// `lines` lines of zeros.
     pub fn reset(&mut self, lines: u64) -> Result<(), AllocError>
         requires { lines ≤ 118016 }
         ensures ok { OnOk result (medium_of self.new ≡ zeros lines) }

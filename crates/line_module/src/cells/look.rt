@@ -111,7 +111,7 @@ impl Cells {
         }
     }
 
-    /// The line that has to be written back before so many bytes can be put at an offset of a line that is not bad.
+    /// The line that has to be written back before a number of bytes can be put at an offset of a line that is not bad.
     pub fn in_the_way(&self, line: LineNo, at: u64, len: u64) -> Option<u64>
         requires within { line.0 < (cells_medium self.now).count }
         requires good { (cells_medium self.now).is_bad line.0 ≡ false }

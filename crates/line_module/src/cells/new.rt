@@ -12,7 +12,7 @@ use raw_lines::Region;
 use std::alloc::{AllocError, Global};
 
 impl Cells {
-    /// So many lines of zeros, with chains for those that may become dirty.
+    /// Lines of zeros, with chains for those that may become dirty.
     pub fn new(alloc: Global, lines: u64) -> Result<Cells, AllocError>
         requires { lines ≤ 118016 }
         ensures { IfOk result (λ cells. memory_in cells ≡ memory_after_reset lines) }

@@ -55,7 +55,7 @@ impl Cells {
         self.cached.hold(line.0, &last);
     }
 
-    /// Writes back the oldest dirty lines, so many or all.
+    /// Writes back the oldest dirty lines, a number of them or all.
     pub fn evict(&mut self, lines: u64)
         ensures { memory_in self.new ≡ memory_after_evict (memory_in self.old) lines }
     {

@@ -1,14 +1,14 @@
 // Commands on native files that leave one old or new as a whole, and the one that makes a whole file durable.
 ghost use Rattle.std.specs.Prelude.{◌≡◌, ◌≤◌, ◌<◌, IfSome, OnErr, OnOk, Some, length, sum_by};
 ghost use Rattle.nvm_base.specs.declared.units.Span.{Span as Stretch};
-ghost use Rattle.machine_host.specs.declared.mode.Mode.TheVariants.{On};
+ghost use Rattle.machine_model.specs.declared.mode.Mode.TheVariants.{On};
 ghost use Rattle.script_text.specs.Action.Action.{FAtomic, FMulti, FDiscard, FSync};
 ghost use Rattle.reply_text.specs.Answer.{answer_of};
 ghost use Rattle.reply_text.specs.Answer.Answer.{Done};
 ghost use Rattle.inode_table.specs.Slots.{inode_of};
 ghost use Rattle.file_journal.specs.Object.{JournalServes};
 ghost use Rattle.file_actions.specs.Refusals.{action_says, all_bytes};
-ghost use Rattle.machine_host.specs.OnFileActions.{action_answer};
+ghost use Rattle.machine_model.specs.OnFileActions.{action_answer};
 ghost use Rattle.machine_host.specs.Flushing.{HoldsLost, LinesTold};
 ghost use Rattle.machine_host.specs.Stands.{HostServes};
 ghost use Rattle.machine_host.specs.Faults.{answer_after, mode_after, action_fault_answer, action_fault_mode};

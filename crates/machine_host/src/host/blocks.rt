@@ -1,12 +1,12 @@
 // Commands on blocks.
 ghost use Rattle.std.specs.Prelude.{◌≡◌, ◌≤◌, ◌<◌, ◌+◌, length, sum_by};
 ghost use Rattle.nvm_base.specs.declared.units.Span.{Span as Stretch};
-ghost use Rattle.machine_host.specs.declared.mode.Mode.TheVariants.{On};
+ghost use Rattle.machine_model.specs.declared.mode.Mode.TheVariants.{On};
 ghost use Rattle.script_text.specs.Action.Action.{BRead, BWrite, BAtomic, BMulti, BDiscard, BDiscardIf, BExists, BScar};
 ghost use Rattle.reply_text.specs.Answer.{answer_of};
 ghost use Rattle.reply_text.specs.Answer.Answer.{Done};
 ghost use Rattle.block_device.specs.Refusals.{block_says};
-ghost use Rattle.machine_host.specs.OnBlocks.{refusal_answer};
+ghost use Rattle.machine_model.specs.OnBlocks.{refusal_answer};
 ghost use Rattle.machine_host.specs.Stands.{HostServes};
 ghost use Rattle.machine_host.specs.Faults.{answer_after, fault_answer, fault_mode, mode_after};
 ghost use Rattle.machine_host.specs.Responding.{Answered, ComesTo};

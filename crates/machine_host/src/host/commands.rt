@@ -2,15 +2,15 @@
 ghost use Rattle.std.specs.Prelude.{◌≡◌, None, IsTrue, OnErr, length};
 ghost use Rattle.script_text.specs.Action.{action_of};
 ghost use Rattle.script_text.specs.Parsing.{InBounds};
-ghost use Rattle.machine_host.specs.Commands.{early_refusal, longest, may_want_memory};
-ghost use Rattle.machine_host.specs.Lines.{bad_metadata};
+ghost use Rattle.machine_model.specs.Commands.{early_refusal, longest, may_want_memory};
+ghost use Rattle.machine_model.specs.Lines.{bad_metadata};
 ghost use Rattle.machine_host.specs.Stands.{HostServes};
 ghost use Rattle.machine_host.specs.Responding.{Performs};
 
 use super::Performer;
-use crate::look::Look;
 use crate::outcome::Outcome;
 use line_device::LineDevice;
+use machine_model::Look;
 use nvm_base::{BLOCK, LINE, MOST, Span};
 use page_table::INODES;
 use script_text::Command;
@@ -81,7 +81,7 @@ pub fn longest_reply(command: &Command) -> u64
 
 impl Performer {
     // Bytes that a command asks for are read into the work buffer, so that they take no memory.
-    #[tactic(auto, using(crate::proofs::RefusalLemmas::is_on, crate::proofs::RefusalLemmas::is_off, crate::proofs::RefusalLemmas::is_powered, crate::proofs::RefusalLemmas::is_unsettled, crate::proofs::RefusalLemmas::places_right, crate::proofs::RefusalLemmas::span_allowed, crate::proofs::RefusalLemmas::read_within, crate::proofs::RefusalLemmas::calls_some, crate::proofs::RefusalLemmas::line_within))]
+    #[tactic(auto, using(machine_model::proofs::RefusalLemmas::is_on, machine_model::proofs::RefusalLemmas::is_off, machine_model::proofs::RefusalLemmas::is_powered, machine_model::proofs::RefusalLemmas::is_unsettled, machine_model::proofs::RefusalLemmas::places_right, machine_model::proofs::RefusalLemmas::span_allowed, machine_model::proofs::RefusalLemmas::read_within, machine_model::proofs::RefusalLemmas::calls_some, machine_model::proofs::RefusalLemmas::line_within))]
     pub(super) fn perform<D: LineDevice>(
         &mut self,
         device: &mut D,

@@ -3,11 +3,11 @@ ghost use Rattle.std.specs.Prelude.{◌≡◌, ◌/◌, ◌<◌, ◌^◌, List};
 ghost use Rattle.nvm_model.specs.Page.{cell_of, is_bad_cell};
 ghost use Rattle.nvm_model.specs.Storage.{File};
 ghost use Rattle.file_pages.specs.Object.{IsFileAt, PagesServe};
-ghost use Rattle.machine_host.specs.declared.mode.Mode.TheVariants.{On};
+ghost use Rattle.machine_model.specs.declared.mode.Mode.TheVariants.{On};
 ghost use Rattle.script_text.specs.Action.Action.{PoisonFile, WeakenFile, ClearFile, CheckFile};
 ghost use Rattle.reply_text.specs.Answer.{answer_of};
-ghost use Rattle.machine_host.specs.Machine.{Machine};
-ghost use Rattle.machine_host.specs.OnFileErrors.{is_weak_line, is_weak_there};
+ghost use Rattle.machine_model.specs.Machine.{Machine};
+ghost use Rattle.machine_model.specs.OnFileErrors.{is_weak_line, is_weak_there};
 ghost use Rattle.machine_host.specs.Stands.{HostServes, Stands};
 ghost use Rattle.machine_host.specs.Responding.{Answered, Responds};
 
@@ -15,9 +15,9 @@ use super::Performer;
 use super::media::{marked, weakened};
 use file_pages::{FilePages, ends_past};
 use line_device::LineDevice;
+use marked_lines::LinesFault;
 use nvm_base::{LINE, Name, PAGE, Span};
 use reply_text::{Reply, Why};
-use scrub::LinesFault;
 use std::alloc::AllocError;
 
 impl Performer {
@@ -106,7 +106,7 @@ impl Performer {
         let Some(inode) = self.files.pages.journal().find(name) else {
             return Ok(Reply::Refused(Why::Missing));
         };
-        match scrub::file_lines(self.alloc, device, &self.files.pages, inode, span) {
+        match marked_lines::file_lines(self.alloc, device, &self.files.pages, inode, span) {
             Ok(offsets) => Ok(Reply::BadLines(offsets)),
             Err(LinesFault::Range) => Ok(Reply::Refused(Why::Range)),
             Err(LinesFault::Length) => Ok(Reply::Refused(Why::Length)),

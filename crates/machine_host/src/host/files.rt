@@ -1,12 +1,12 @@
 // Commands on files.
 ghost use Rattle.std.specs.Prelude.{◌≡◌, false};
 ghost use Rattle.nvm_model.specs.Mappings.{is_mapped};
-ghost use Rattle.machine_host.specs.declared.mode.Mode.TheVariants.{On};
+ghost use Rattle.machine_model.specs.declared.mode.Mode.TheVariants.{On};
 ghost use Rattle.script_text.specs.Action.Action.{Create, Delete, Rename, Resize, ListFiles};
 ghost use Rattle.reply_text.specs.Answer.{answer_of};
 ghost use Rattle.reply_text.specs.Answer.Answer.{Done};
 ghost use Rattle.file_journal.specs.Refusals.{journal_says};
-ghost use Rattle.machine_host.specs.OnFiles.{journal_answer};
+ghost use Rattle.machine_model.specs.OnFiles.{journal_answer};
 ghost use Rattle.machine_host.specs.Stands.{HostServes};
 ghost use Rattle.machine_host.specs.Faults.{answer_after, mode_after, journal_fault_answer, journal_fault_mode};
 ghost use Rattle.machine_host.specs.Responding.{Answered, Responds};

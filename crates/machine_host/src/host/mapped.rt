@@ -1,7 +1,7 @@
 // Commands on mappings of files.
 ghost use Rattle.std.specs.Prelude.{◌≡◌, ◌≤◌, ◌<◌, ◌+◌, ◌^◌, IfSome, IsSome, MatchResult, drop, length, take};
 ghost use Rattle.nvm_model.specs.Mappings.{copy_of};
-ghost use Rattle.machine_host.specs.declared.mode.Mode.TheVariants.{On};
+ghost use Rattle.machine_model.specs.declared.mode.Mode.TheVariants.{On};
 ghost use Rattle.script_text.specs.Action.Action.{Map, Unmap, Load, Store};
 ghost use Rattle.reply_text.specs.Answer.{answer_of};
 ghost use Rattle.reply_text.specs.Answer.Answer.{Bytes};

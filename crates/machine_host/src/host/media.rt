@@ -1,14 +1,14 @@
 // Media errors: lines that go bad or weak, and bad lines that are made good again.
 ghost use Rattle.std.specs.Prelude.{◌≡◌, ◌<◌, Err, MatchResult};
 ghost use Rattle.word_tables.specs.Layout.{meta_lines};
-ghost use Rattle.machine_host.specs.declared.mode.Mode.TheVariants.{On};
+ghost use Rattle.machine_model.specs.declared.mode.Mode.TheVariants.{On};
 ghost use Rattle.script_text.specs.Action.Action.{PoisonBlock, PoisonVolume, PoisonMeta, WeakenVolume, ClearVolume};
 ghost use Rattle.reply_text.specs.Answer.{answer_of};
 ghost use Rattle.reply_text.specs.Answer.Answer.{Done};
 ghost use Rattle.scrub.specs.Refusals.{place_says, scrub_says, weaken_says};
 ghost use Rattle.scrub.specs.declared.fault.WeakenFault.TheVariants.{Memory};
-ghost use Rattle.machine_host.specs.OnMedia.{line_answer};
-ghost use Rattle.machine_host.specs.Machine.{Machine, bad_of};
+ghost use Rattle.machine_model.specs.OnMedia.{line_answer};
+ghost use Rattle.machine_model.specs.Machine.{Machine, bad_of};
 ghost use Rattle.machine_host.specs.Stands.{HostServes, Stands};
 ghost use Rattle.machine_host.specs.Faults.{answer_after, mode_after};
 ghost use Rattle.machine_host.specs.Responding.{Answered, Responds};

@@ -1,12 +1,12 @@
 // Commands on the bytes of files.
 ghost use Rattle.std.specs.Prelude.{◌≡◌, ◌≤◌, ◌<◌, ◌+◌, ◌*◌, ◌^◌, Some, length};
-ghost use Rattle.machine_host.specs.declared.mode.Mode.TheVariants.{On};
+ghost use Rattle.machine_model.specs.declared.mode.Mode.TheVariants.{On};
 ghost use Rattle.script_text.specs.Action.Action.{FRead, FWrite};
 ghost use Rattle.reply_text.specs.Answer.{answer_of};
 ghost use Rattle.reply_text.specs.Answer.Answer.{Done};
 ghost use Rattle.inode_table.specs.Slots.{inode_of, pages_at};
 ghost use Rattle.file_pages.specs.Refusals.{page_says};
-ghost use Rattle.machine_host.specs.OnPages.{page_answer};
+ghost use Rattle.machine_model.specs.OnPages.{page_answer};
 ghost use Rattle.machine_host.specs.Stands.{HostServes};
 ghost use Rattle.machine_host.specs.Faults.{answer_after, mode_after, page_fault_answer, page_fault_mode};
 ghost use Rattle.machine_host.specs.Responding.{Answered, ComesTo};

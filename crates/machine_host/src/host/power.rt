@@ -1,6 +1,6 @@
 // Cuts, failures, write-backs, restarts and recoveries, and what an interrupted command is answered.
 ghost use Rattle.std.specs.Prelude.{◌≡◌, ◌≤◌, MatchResult};
-ghost use Rattle.machine_host.specs.declared.mode.Mode.TheVariants.{On, Off, Unsettled};
+ghost use Rattle.machine_model.specs.declared.mode.Mode.TheVariants.{On, Off, Unsettled};
 ghost use Rattle.script_text.specs.Action.Action.{Cut, CutIn, FailIn, Restart, Recover, Evict};
 ghost use Rattle.reply_text.specs.Answer.{answer_of};
 ghost use Rattle.block_device.specs.Object.{BlocksServe};
@@ -9,7 +9,7 @@ ghost use Rattle.pm_volume.specs.Object.{VolumeServes};
 ghost use Rattle.recovery.specs.declared.fault.MountFault.TheVariants.{Memory};
 ghost use Rattle.machine_host.specs.Stands.{HostServes, just_mounted};
 ghost use Rattle.machine_host.specs.Faults.{CountsBad, unmounted_answer, unmounted_mode};
-ghost use Rattle.machine_host.specs.Interrupted.{interrupted_answer, interrupted_mode};
+ghost use Rattle.machine_model.specs.Interrupted.{interrupted_answer, interrupted_mode};
 ghost use Rattle.machine_host.specs.Responding.{Answered, Responds};
 
 use super::Performer;

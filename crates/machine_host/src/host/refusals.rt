@@ -4,16 +4,16 @@ ghost use Rattle.word_tables.specs.Bounds.{IsValid};
 ghost use Rattle.script_text.specs.Action.{action_of};
 ghost use Rattle.script_text.specs.Parsing.{InBounds};
 ghost use Rattle.reply_text.specs.Answer.{answer_of};
-ghost use Rattle.machine_host.specs.Lines.{bad_metadata, lowest};
+ghost use Rattle.machine_model.specs.Lines.{bad_metadata, lowest};
 ghost use Rattle.machine_host.specs.Stands.{HostServes};
-ghost use Rattle.machine_host.specs.Meaning.{mode_refusal, most_refusal, span_refusal};
-ghost use Rattle.machine_host.specs.Commands.{early_refusal, meaning};
+ghost use Rattle.machine_model.specs.Meaning.{mode_refusal, most_refusal, span_refusal};
+ghost use Rattle.machine_model.specs.Commands.{early_refusal, meaning};
 
 use super::Performer;
 use crate::Mode;
-use crate::needs::Needs;
 use line_device::LineDevice;
 use line_words::first_bad;
+use machine_model::Needs;
 use nvm_base::{MOST, PAGE};
 use reply_text::{Reply, Why};
 use script_text::Command;
@@ -22,7 +22,7 @@ use word_tables::Geometry;
 /// Most blocks that are read at once.
 const MOST_BLOCKS: u64 = 128;
 
-#[tactic(auto, unfolding(crate::specs::Commands::early_refusal))]
+#[tactic(auto, unfolding(machine_model::specs::Commands::early_refusal))]
 impl Performer {
     // Why a command is not done, as far as the host finds that itself. It makes no counted call.
     pub(crate) fn refusal<D: LineDevice>(&self, device: &D, command: &Command) -> Option<Reply>

@@ -3,8 +3,8 @@ ghost use Rattle.std.specs.Prelude.{◌≡◌, false, MatchResult, OnOk, OnErr};
 ghost use Rattle.nvm_base.specs.declared.units.LineNo.{LineNo};
 ghost use Rattle.recovery.specs.declared.fault.MountFault.TheVariants.{Meta, Device, PowerLost};
 ghost use Rattle.line_device.specs.Panel.{after_disarm};
-ghost use Rattle.machine_host.specs.declared.mode.Mode.TheVariants.{Off, Unsettled, Stopped};
-ghost use Rattle.machine_host.specs.Machine.{Machine};
+ghost use Rattle.machine_model.specs.declared.mode.Mode.TheVariants.{Off, Unsettled, Stopped};
+ghost use Rattle.machine_model.specs.Machine.{Machine};
 ghost use Rattle.machine_host.specs.Stands.{HostServes, Stands};
 ghost use Rattle.machine_host.specs.Settling.{IsQuiet, LeftUnsettled, MountsAnew, Settled, Settles, is_down};
 

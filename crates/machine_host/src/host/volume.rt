@@ -1,11 +1,11 @@
 // Commands on the volume.
 ghost use Rattle.std.specs.Prelude.{◌≡◌, ◌≤◌, ◌<◌, ◌+◌, ◌*◌, ◌^◌, length};
-ghost use Rattle.machine_host.specs.declared.mode.Mode.TheVariants.{On};
+ghost use Rattle.machine_model.specs.declared.mode.Mode.TheVariants.{On};
 ghost use Rattle.script_text.specs.Action.Action.{VLoad, VStore, VSync, VRanges, VPSync, VDiscard, VDiscardIf, VExists};
 ghost use Rattle.reply_text.specs.Answer.{answer_of};
 ghost use Rattle.reply_text.specs.Answer.Answer.{Done};
 ghost use Rattle.pm_volume.specs.Refusals.{volume_says};
-ghost use Rattle.machine_host.specs.OnVolume.{volume_answer};
+ghost use Rattle.machine_model.specs.OnVolume.{volume_answer};
 ghost use Rattle.machine_host.specs.Stands.{HostServes};
 ghost use Rattle.machine_host.specs.Faults.{answer_after, mode_after, volume_fault_answer, volume_fault_mode};
 ghost use Rattle.machine_host.specs.Responding.{Answered, ComesTo, Responds};

@@ -28,7 +28,7 @@ impl Failures {
         Failures { numbers, calls: 0 }
     }
 
-    /// Numbers a call, and says whether it fails.
+    /// Numbers a call, and returns whether it fails.
     #[tactic(auto, using(crate::proofs::ScheduleLemmas::due, crate::proofs::ScheduleLemmas::fewer, crate::proofs::ScheduleLemmas::same))]
     pub fn next(&mut self) -> bool
         ensures value { result ≡ fails_next self.old }

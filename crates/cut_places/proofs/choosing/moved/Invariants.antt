@@ -1,5 +1,5 @@
 use Rattle.std.proofs.Common.{◌≡◌, take}
-use Rattle.machine_host.specs.OnFlushes.{all_moved}
+use Rattle.sights.specs.MachineModel.OnFlushes.{all_moved}
 use Rattle.cut_places.proofs.choosing.moved.Given as goal
 
 abbrev pub invariant-loop-span : goal.invariant-loop-span

@@ -4,10 +4,10 @@ use Rattle.std.proofs.lemmas.Iterator.{YieldsList-from_slice}
 use Rattle.std.proofs.lemmas.Iterator.Search.{all_from_yields_List}
 use Rattle.std.proofs.lemmas.List.Folds.{list_all-map}
 use Rattle.nvm_model.specs.Listing.{file_of}
-use Rattle.asked_reads.specs.Reads.{page_read}
-use Rattle.outcomes.specs.Files.{FileRead}
-use Rattle.asked_reads.specs.declared.reads.FileRead.{FileRead as Asked}
-use Rattle.asked_reads.specs.Reads.{file_read, file_reads_asked}
+use Rattle.sights.specs.AskedReads.Reads.{page_read}
+use Rattle.sights.specs.Outcomes.Files.{FileRead}
+use Rattle.sights.specs.AskedReads.declared.reads.FileRead.{FileRead as Asked}
+use Rattle.sights.specs.AskedReads.Reads.{file_read, file_reads_asked}
 use Rattle.cut_places.specs.FileFitting.{now_fits, read_passes}
 use Rattle.cut_places.specs.FilesState.{name_seen}
 use Rattle.cut_places.proofs.fitting.all_fit.Goals as goal

@@ -3,9 +3,9 @@ use Rattle.std.proofs.Common.{◌||◌, not, ◌∙◌, rules, tests}
 use Rattle.std.specs.Str.{bytes_eq}
 use Rattle.std.proofs.lemmas.Iterator.{YieldsList-from_slice}
 use Rattle.std.proofs.lemmas.Iterator.Search.{all_from_yields_List}
-use Rattle.asked_reads.specs.Reads.{page_reply}
-use Rattle.outcomes.specs.Pages.{PageRead, agrees}
-use Rattle.asked_reads.specs.declared.reads.FileRead.{FileRead as Asked}
+use Rattle.sights.specs.AskedReads.Reads.{page_reply}
+use Rattle.sights.specs.Outcomes.Pages.{PageRead, agrees}
+use Rattle.sights.specs.AskedReads.declared.reads.FileRead.{FileRead as Asked}
 use Rattle.cut_places.proofs.AskedLemmas.{all_of_file}
 use Rattle.cut_places.proofs.line_fits.agree.Goals as goal
 

@@ -1,8 +1,8 @@
 -- A bad line is asked of, or a good one.
 use Rattle.std.proofs.Common.{◌≡◌, true, false, ◌∙◌}
-use Rattle.outcomes.specs.Pages.{all_allow_good}
-use Rattle.outcomes.specs.Files.{reads_of}
-use Rattle.asked_reads.specs.Reads.{file_reads_asked}
+use Rattle.sights.specs.Outcomes.Pages.{all_allow_good}
+use Rattle.sights.specs.Outcomes.Files.{reads_of}
+use Rattle.sights.specs.AskedReads.Reads.{file_reads_asked}
 use Rattle.sights.proofs.FitLemmas.{bad_fits, good_fits, no_good_fits}
 use Rattle.cut_places.proofs.line_fits.line_fits.Goals as goal
 

@@ -4,9 +4,9 @@ use Rattle.std.specs.List.{list_any}
 use Rattle.std.proofs.lemmas.Iterator.{YieldsList-from_slice}
 use Rattle.std.proofs.lemmas.Iterator.Search.{any_from_yields_List}
 use Rattle.line_histories.specs.declared.log.Stored.{Stored}
-use Rattle.outcomes.specs.Pages.{all_agree}
-use Rattle.outcomes.specs.Files.{reads_of}
-use Rattle.asked_reads.specs.Reads.{file_reads_asked}
+use Rattle.sights.specs.Outcomes.Pages.{all_agree}
+use Rattle.sights.specs.Outcomes.Files.{reads_of}
+use Rattle.sights.specs.AskedReads.Reads.{file_reads_asked}
 use Rattle.sights.proofs.FitLemmas.{word_fits_by}
 use Rattle.cut_places.proofs.line_fits.word_fits.Goals as goal
 

@@ -5,10 +5,10 @@ use Rattle.std.proofs.lemmas.Iterator.{YieldsList-from_range}
 use Rattle.std.proofs.lemmas.Iterator.Search.{all_from_yields_List}
 use Rattle.nvm_model.specs.Cell.{Cell}
 use Rattle.nvm_model.specs.Cell.Cell.{Bad, Kept}
-use Rattle.outcomes.specs.Pages.{all_agree}
-use Rattle.outcomes.specs.Files.{reads_of}
-use Rattle.asked_reads.specs.Reads.{file_reads_asked}
-use Rattle.asked_reads.specs.Fitting.{WordFits, WordsFit}
+use Rattle.sights.specs.Outcomes.Pages.{all_agree}
+use Rattle.sights.specs.Outcomes.Files.{reads_of}
+use Rattle.sights.specs.AskedReads.Reads.{file_reads_asked}
+use Rattle.sights.specs.AskedReads.Fitting.{WordFits, WordsFit}
 use Rattle.cut_places.proofs.line_fits.words_fit.Goals as goal
 
 pub returns : goal.returns

@@ -1,6 +1,6 @@
 use Rattle.std.proofs.Common.{if◌then◌else◌, length, ap, arith}
 use Rattle.nvm_model.specs.Listing.{is_named}
-use Rattle.asked_reads.specs.Reads.{file_reads_asked}
+use Rattle.sights.specs.AskedReads.Reads.{file_reads_asked}
 use Rattle.cut_places.specs.FileChanges.{lines_of}
 use Rattle.cut_places.specs.FileLeaving.{lines_left}
 use Rattle.cut_places.specs.FilesState.{name_seen}

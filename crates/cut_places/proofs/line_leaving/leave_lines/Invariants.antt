@@ -1,5 +1,5 @@
 use Rattle.std.proofs.Common.{◌≡◌, ◌++◌, drop, map, take}
-use Rattle.asked_reads.specs.Reads.{file_reads_asked}
+use Rattle.sights.specs.AskedReads.Reads.{file_reads_asked}
 use Rattle.cut_places.specs.FileChanges.{lines_of}
 use Rattle.cut_places.specs.FileLeaving.{line_left}
 use Rattle.cut_places.proofs.line_leaving.leave_lines.Given as goal

@@ -2,11 +2,11 @@
 use Rattle.std.proofs.Common.{◌||◌, not, rules, tests}
 use Rattle.std.proofs.lemmas.Iterator.{YieldsList-from_slice}
 use Rattle.std.proofs.lemmas.Iterator.Search.{all_from_yields_List}
-use Rattle.asked_reads.specs.Fitting.{cell_fits}
-use Rattle.asked_reads.specs.Reads.{page_reply}
-use Rattle.outcomes.specs.Files.{reads_of}
+use Rattle.sights.specs.AskedReads.Fitting.{cell_fits}
+use Rattle.sights.specs.AskedReads.Reads.{page_reply}
+use Rattle.sights.specs.Outcomes.Files.{reads_of}
 use Rattle.cut_places.specs.declared.line.FileLine.{FileLine}
-use Rattle.asked_reads.specs.Reads.{file_reads_asked}
+use Rattle.sights.specs.AskedReads.Reads.{file_reads_asked}
 use Rattle.cut_places.specs.FileFitting.{looks_at}
 use Rattle.cut_places.proofs.read_fits.lines_fit.Goals as goal
 

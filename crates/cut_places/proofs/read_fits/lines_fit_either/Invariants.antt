@@ -1,6 +1,6 @@
 use Rattle.std.proofs.Common.{◌≡◌, true, take}
-use Rattle.asked_reads.specs.Reads.{page_read}
-use Rattle.asked_reads.specs.Reads.{file_reads_asked}
+use Rattle.sights.specs.AskedReads.Reads.{page_read}
+use Rattle.sights.specs.AskedReads.Reads.{file_reads_asked}
 use Rattle.cut_places.specs.FileChanges.{lines_of}
 use Rattle.cut_places.specs.FileFitting.{either_fits, seen_pass}
 use Rattle.cut_places.proofs.read_fits.lines_fit_either.Given as goal

@@ -1,8 +1,8 @@
 use Rattle.std.proofs.Common.{◌≡◌, true, sym, subst, ◌∙◌, arith}
 use Rattle.std.specs.List.{list_all}
 use Rattle.word_tables.specs.declared.geometry.Geometry.{Geometry}
-use Rattle.outcomes.specs.Blocks.{is_block_reply}
-use Rattle.asked_reads.specs.Reads.{blocks_asked}
+use Rattle.cut_places.specs.Outcomes.Blocks.{is_block_reply}
+use Rattle.cut_places.specs.AskedReads.Reads.{blocks_asked}
 use Rattle.explorer.specs.Stopping.{DeviceStopped}
 use Rattle.explorer.proofs.CauseLemmas.{fell_later, handed_on, stopped_later}
 use Rattle.explorer.proofs.BlockLookLemmas.{read_behind, reply_at}

@@ -1,14 +1,14 @@
 use Rattle.std.proofs.Common.{◌≡◌, length, take}
 use Rattle.nvm_model.specs.Blocks.{nth}
 use Rattle.block_sights.specs.Sights.{sight}
-use Rattle.machine_host.specs.Machine.{Machine}
+use Rattle.cut_places.specs.MachineModel.Machine.{Machine}
 use Rattle.machine_host.specs.Settling.{GoesOn}
 use Rattle.machine_host.specs.Stands.{Stands}
-use Rattle.outcomes.specs.Blocks.{all_numbers_read}
-use Rattle.outcomes.specs.Finds.{IsReady}
-use Rattle.asked_reads.specs.Reads.{blocks_asked}
+use Rattle.cut_places.specs.Outcomes.Blocks.{all_numbers_read}
+use Rattle.cut_places.specs.Outcomes.Finds.{IsReady}
+use Rattle.cut_places.specs.AskedReads.Reads.{blocks_asked}
 use Rattle.explorer.specs.Stopping.{NoneFell}
-use Rattle.sights.specs.Units.{AreBlocks, block_numbers}
+use Rattle.cut_places.specs.SightsSeen.Units.{AreBlocks, block_numbers}
 use Rattle.explorer.proofs.blocks_look.look_blocks.Given as goal
 
 abbrev pub invariant-loop-read : goal.invariant-loop-read

@@ -2,7 +2,7 @@ use Rattle.std.proofs.Common.{◌≡◌, ◌++◌, ℕ, [], ◌∷◌, sym, ap, 
 use Rattle.nvm_model.specs.Blocks.{nth}
 use Rattle.block_sights.specs.Sights.{Sight, sight}
 use Rattle.explorer.specs.Stopping.{DeviceStopped}
-use Rattle.sights.specs.Units.{AreBlocks, block_numbers}
+use Rattle.cut_places.specs.SightsSeen.Units.{AreBlocks, block_numbers}
 use Rattle.explorer.proofs.CauseLemmas.{fell_later, handed_on, stopped_later}
 use Rattle.explorer.proofs.BlockLookLemmas.{numbers_more, one_more, put_behind}
 use Rattle.explorer.proofs.blocks_look.look_read.Goals as goal

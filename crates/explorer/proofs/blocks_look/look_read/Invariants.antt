@@ -2,12 +2,12 @@ use Rattle.std.proofs.Common.{◌≡◌, ◌-◌, ◌++◌, length}
 use Rattle.std.specs.List.{range_with_len}
 use Rattle.nvm_model.specs.Blocks.{nth}
 use Rattle.block_sights.specs.Sights.{sight}
-use Rattle.machine_host.specs.Machine.{Machine}
+use Rattle.cut_places.specs.MachineModel.Machine.{Machine}
 use Rattle.machine_host.specs.Settling.{GoesOn}
 use Rattle.machine_host.specs.Stands.{Stands}
-use Rattle.outcomes.specs.Finds.{IsReady}
+use Rattle.cut_places.specs.Outcomes.Finds.{IsReady}
 use Rattle.explorer.specs.Stopping.{NoneFell}
-use Rattle.sights.specs.Units.{AreBlocks, block_numbers}
+use Rattle.cut_places.specs.SightsSeen.Units.{AreBlocks, block_numbers}
 use Rattle.explorer.proofs.blocks_look.look_read.Given as goal
 
 abbrev pub invariant-loop-b : goal.invariant-loop-b

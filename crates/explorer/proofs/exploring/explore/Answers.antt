@@ -1,7 +1,7 @@
 use Rattle.std.proofs.Common.{refl, sym, ap, subst, ◌∙◌}
-use Rattle.outcomes.specs.Finds.{armed}
-use Rattle.asked_reads.specs.Asking.{may_be_replies}
-use Rattle.asked_reads.specs.Program.{inputs_of_lines}
+use Rattle.cut_places.specs.Outcomes.Finds.{armed}
+use Rattle.cut_places.specs.AskedReads.Asking.{may_be_replies}
+use Rattle.cut_places.specs.AskedReads.Program.{inputs_of_lines}
 use Rattle.cut_places.specs.Following.{Follows}
 use Rattle.cut_places.specs.Places.{cut_places}
 use Rattle.cut_places.proofs.WithinLemmas.{found_nowhere}

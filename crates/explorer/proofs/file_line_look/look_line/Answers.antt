@@ -5,8 +5,8 @@ use Rattle.reply_text.specs.Answer.{answer_of}
 use Rattle.reply_text.specs.declared.reply.Reply.TheVariants as reply
 use Rattle.script_text.specs.Action.Action.{FRead}
 use Rattle.machine_host.specs.declared.outcome.Outcome.TheVariants.{Read, Reply as Replied}
-use Rattle.machine_host.specs.Commands.{fate}
-use Rattle.machine_host.specs.Machine.{Machine}
+use Rattle.cut_places.specs.MachineModel.Commands.{fate}
+use Rattle.cut_places.specs.MachineModel.Machine.{Machine}
 use Rattle.machine_host.specs.Responding.{IsWithin, outcome_answer}
 use Rattle.machine_host.specs.Stands.{Comes}
 use Rattle.explorer.specs.Coming.{came_of}

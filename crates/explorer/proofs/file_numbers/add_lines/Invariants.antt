@@ -1,7 +1,7 @@
 use Rattle.std.proofs.Common.{◌≡◌, ◌-◌, ◌≤◌, ◌<◌, ◌^◌, ℕ, true}
 use Rattle.std.specs.List.{range_with_len}
-use Rattle.outcomes.specs.Pages.{lines_read}
-use Rattle.asked_reads.specs.Reads.{page_reply}
+use Rattle.cut_places.specs.Outcomes.Pages.{lines_read}
+use Rattle.cut_places.specs.AskedReads.Reads.{page_reply}
 use Rattle.cut_places.specs.SeesFiles.{is_held}
 use Rattle.explorer.proofs.file_numbers.add_lines.Given as goal
 

@@ -1,4 +1,4 @@
-use Rattle.asked_reads.specs.Asking.{may_be_file_reply}
+use Rattle.cut_places.specs.AskedReads.Asking.{may_be_file_reply}
 use Rattle.explorer.proofs.NumberLemmas.{asked_at, held_more}
 use Rattle.explorer.proofs.file_numbers.file_numbers.Goals as goal
 

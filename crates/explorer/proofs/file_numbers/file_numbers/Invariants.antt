@@ -1,5 +1,5 @@
 use Rattle.std.proofs.Common.{◌≡◌, take, true}
-use Rattle.asked_reads.specs.Reads.{file_reads_asked}
+use Rattle.cut_places.specs.AskedReads.Reads.{file_reads_asked}
 use Rattle.cut_places.specs.SeesFiles.{are_held}
 use Rattle.explorer.proofs.file_numbers.file_numbers.Given as goal
 

@@ -1,6 +1,6 @@
 use Rattle.std.proofs.Common.{◌≡◌, [], ◌∷◌, ◌++◌, ap, refl, subst, sym, ◌∙◌}
 use Rattle.std.specs.Prelude.{slice_index}
-use Rattle.sights.specs.Seeing.{seen}
+use Rattle.cut_places.specs.SightsSeen.Seeing.{seen}
 use Rattle.cut_places.specs.declared.line.FileLine.{FileLine}
 use Rattle.cut_places.specs.SeesFiles.{AreLines, line_numbers}
 use Rattle.cut_places.specs.FilesState.{FileState}

@@ -1,9 +1,9 @@
 use Rattle.std.proofs.Common.{◌≡◌, take}
 use Rattle.nvm_model.specs.Storage.{File}
-use Rattle.machine_host.specs.Machine.{Machine}
+use Rattle.cut_places.specs.MachineModel.Machine.{Machine}
 use Rattle.machine_host.specs.Settling.{GoesOn}
 use Rattle.machine_host.specs.Stands.{Stands}
-use Rattle.sights.specs.Seeing.{seen}
+use Rattle.cut_places.specs.SightsSeen.Seeing.{seen}
 use Rattle.cut_places.specs.SeesFiles.{AreLines, line_numbers}
 use Rattle.explorer.specs.Files.{IsListed}
 use Rattle.explorer.specs.Starting.{Begins}

@@ -2,7 +2,7 @@ use Rattle.std.proofs.Common.{◌≡◌, [], map, take}
 use Rattle.std.specs.List.{All}
 use Rattle.nvm_model.specs.Files.{entry_of_file}
 use Rattle.nvm_model.specs.Listing.{AreAlike, file_name}
-use Rattle.machine_host.specs.Machine.{Machine}
+use Rattle.cut_places.specs.MachineModel.Machine.{Machine}
 use Rattle.machine_host.specs.Settling.{GoesOn}
 use Rattle.machine_host.specs.Stands.{Stands}
 use Rattle.cut_places.specs.SeesFiles.{SeesFile}

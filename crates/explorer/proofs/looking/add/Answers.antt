@@ -1,10 +1,10 @@
 use Rattle.std.proofs.Common.{◌≡◌, [], ◌∷◌, ◌++◌, ◌*◌, ◌/◌, ap, ap₂, refl, subst, sym, ◌∙◌}
-use Rattle.outcomes.specs.Blocks.BlockReply.{Scar}
-use Rattle.outcomes.specs.Pages.{PageRead}
-use Rattle.outcomes.specs.Pages.PageReply.{Poison}
-use Rattle.asked_reads.specs.Reads.{page_read}
-use Rattle.asked_reads.specs.declared.question.Question.{Question}
-use Rattle.asked_reads.specs.declared.read.Read.TheVariants as reads
+use Rattle.cut_places.specs.Outcomes.Blocks.BlockReply.{Scar}
+use Rattle.cut_places.specs.Outcomes.Pages.{PageRead}
+use Rattle.cut_places.specs.Outcomes.Pages.PageReply.{Poison}
+use Rattle.cut_places.specs.AskedReads.Reads.{page_read}
+use Rattle.cut_places.specs.AskedReads.declared.question.Question.{Question}
+use Rattle.cut_places.specs.AskedReads.declared.read.Read.TheVariants as reads
 use Rattle.explorer.specs.Tabulating.{LooksAt}
 use Rattle.explorer.proofs.LookingLemmas.{looks-blocks, looks-file, looks-lines, looks-refused, of_none, of_some}
 use Rattle.explorer.proofs.looking.add.Goals as goal

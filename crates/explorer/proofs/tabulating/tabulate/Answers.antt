@@ -1,6 +1,6 @@
 use Rattle.std.proofs.Common.{ap, sym, ◌∙◌}
 use Rattle.std.specs.List.{list_all}
-use Rattle.asked_reads.specs.Asking.{files_asked}
+use Rattle.cut_places.specs.AskedReads.Asking.{files_asked}
 use Rattle.cut_places.specs.SeesFiles.{is_held}
 use Rattle.explorer.proofs.LookingLemmas.{held_read}
 use Rattle.explorer.proofs.tabulating.tabulate.Goals as goal

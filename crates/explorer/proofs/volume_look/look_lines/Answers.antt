@@ -1,9 +1,9 @@
 use Rattle.std.proofs.Common.{◌*◌, ap, ◌∙◌}
 use Rattle.word_tables.specs.declared.geometry.Geometry.{Geometry}
-use Rattle.outcomes.specs.Pages.{is_reply}
-use Rattle.asked_reads.specs.Reads.{page_read}
+use Rattle.cut_places.specs.Outcomes.Pages.{is_reply}
+use Rattle.cut_places.specs.AskedReads.Reads.{page_read}
 use Rattle.explorer.specs.Stopping.{DeviceStopped}
-use Rattle.sights.specs.Units.{line_numbers}
+use Rattle.cut_places.specs.SightsSeen.Units.{line_numbers}
 use Rattle.explorer.proofs.CauseLemmas.{fell_later, handed_on, stopped_later}
 use Rattle.explorer.proofs.LookLemmas.{reads_more, reply_at}
 use Rattle.explorer.proofs.volume_look.look_lines.Goals as goal

@@ -1,13 +1,13 @@
 use Rattle.std.proofs.Common.{◌≡◌, ◌++◌, drop}
-use Rattle.machine_host.specs.Machine.{Machine}
+use Rattle.cut_places.specs.MachineModel.Machine.{Machine}
 use Rattle.machine_host.specs.Settling.{GoesOn}
 use Rattle.machine_host.specs.Stands.{Stands}
-use Rattle.outcomes.specs.Pages.{all_lines_read}
-use Rattle.asked_reads.specs.Reads.{pages_asked}
-use Rattle.sights.specs.Seeing.{seen}
+use Rattle.cut_places.specs.Outcomes.Pages.{all_lines_read}
+use Rattle.cut_places.specs.AskedReads.Reads.{pages_asked}
+use Rattle.cut_places.specs.SightsSeen.Seeing.{seen}
 use Rattle.explorer.specs.Starting.{Begins}
 use Rattle.explorer.specs.Stopping.{NoneFell}
-use Rattle.sights.specs.Units.{AreLines, line_numbers}
+use Rattle.cut_places.specs.SightsSeen.Units.{AreLines, line_numbers}
 use Rattle.explorer.proofs.volume_look.look_lines.Given as goal
 
 abbrev pub invariant-loop-read : goal.invariant-loop-read

@@ -1,8 +1,8 @@
 use Rattle.std.proofs.Common.{◌≡◌, Bool, cond, ◌++◌, [], ◌∷◌, sym, ap, subst, ◌∙◌}
 use Rattle.std.specs.Result.{is_ok}
-use Rattle.sights.specs.Seeing.{seen}
+use Rattle.cut_places.specs.SightsSeen.Seeing.{seen}
 use Rattle.explorer.specs.Stopping.{DeviceStopped}
-use Rattle.sights.specs.Units.{AreLines, line_numbers}
+use Rattle.cut_places.specs.SightsSeen.Units.{AreLines, line_numbers}
 use Rattle.explorer.proofs.CauseLemmas.{fell_later, handed_on, stopped_later}
 use Rattle.explorer.proofs.LookLemmas.{are_more, numbers_more}
 use Rattle.explorer.proofs.volume_look.look_read.Goals as goal

@@ -1,14 +1,14 @@
 use Rattle.std.proofs.Common.{◌≡◌, ◌-◌, ◌*◌, ◌≤◌, ◌++◌}
 use Rattle.std.specs.List.{range_with_len}
-use Rattle.machine_host.specs.Machine.{Machine}
+use Rattle.cut_places.specs.MachineModel.Machine.{Machine}
 use Rattle.machine_host.specs.Settling.{GoesOn}
 use Rattle.machine_host.specs.Stands.{Stands}
-use Rattle.outcomes.specs.Pages.{lines_read}
-use Rattle.asked_reads.specs.Reads.{page_reply}
-use Rattle.sights.specs.Seeing.{seen}
+use Rattle.cut_places.specs.Outcomes.Pages.{lines_read}
+use Rattle.cut_places.specs.AskedReads.Reads.{page_reply}
+use Rattle.cut_places.specs.SightsSeen.Seeing.{seen}
 use Rattle.explorer.specs.Starting.{Begins}
 use Rattle.explorer.specs.Stopping.{NoneFell}
-use Rattle.sights.specs.Units.{AreLines, line_numbers}
+use Rattle.cut_places.specs.SightsSeen.Units.{AreLines, line_numbers}
 use Rattle.explorer.proofs.volume_look.look_read.Given as goal
 
 abbrev pub invariant-loop-n : goal.invariant-loop-n

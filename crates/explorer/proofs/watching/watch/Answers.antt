@@ -1,11 +1,11 @@
 use Rattle.std.proofs.Common.{◌≡◌, ◌*◌, true, sym, ap, ◌∙◌}
 use Rattle.std.specs.List.{list_all}
 use Rattle.std.proofs.lemmas.Bool.{and_parts}
-use Rattle.outcomes.specs.Blocks.{all_numbers_read, is_block_reply}
-use Rattle.outcomes.specs.Finds.{armed}
-use Rattle.outcomes.specs.Pages.{all_lines_read, is_reply}
-use Rattle.asked_reads.specs.Asking.{blocks_of, may_be_file_reply, may_be_replies, volume_asked}
-use Rattle.asked_reads.specs.Reads.{blocks_asked, file_reads_asked, pages_asked}
+use Rattle.cut_places.specs.Outcomes.Blocks.{all_numbers_read, is_block_reply}
+use Rattle.cut_places.specs.Outcomes.Finds.{armed}
+use Rattle.cut_places.specs.Outcomes.Pages.{all_lines_read, is_reply}
+use Rattle.cut_places.specs.AskedReads.Asking.{blocks_of, may_be_file_reply, may_be_replies, volume_asked}
+use Rattle.cut_places.specs.AskedReads.Reads.{blocks_asked, file_reads_asked, pages_asked}
 use Rattle.cut_places.specs.SeesFiles.{are_held}
 use Rattle.explorer.specs.Stopping.{DeviceStopped}
 use Rattle.explorer.proofs.CauseLemmas.{fell_later, handed_on, stopped_later}

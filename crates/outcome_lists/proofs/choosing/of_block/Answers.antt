@@ -1,6 +1,6 @@
 use Rattle.std.proofs.Common.{[], ◌∷◌, ◌++◌, ap, ap₂, sym, ◌∙◌}
 use Rattle.std.proofs.lemmas.List.{map-append}
-use Rattle.asked_reads.specs.declared.read.Read.TheVariants.{Blocks}
+use Rattle.explorer.specs.AskedReads.declared.read.Read.TheVariants.{Blocks}
 use Rattle.outcome_lists.specs.Asking.{choice_held, choices_held}
 use Rattle.outcome_lists.specs.Choices.{block_choice, head}
 use Rattle.outcome_lists.proofs.MappedLemmas.{mapped_next}

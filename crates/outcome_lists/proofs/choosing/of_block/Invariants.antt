@@ -1,5 +1,5 @@
 use Rattle.std.proofs.Common.{◌≡◌, map, take}
-use Rattle.asked_reads.specs.declared.read.Read.TheVariants.{Blocks}
+use Rattle.explorer.specs.AskedReads.declared.read.Read.TheVariants.{Blocks}
 use Rattle.outcome_lists.specs.Asking.{choices_held}
 use Rattle.outcome_lists.specs.Choices.{block_choice, head}
 use Rattle.outcome_lists.proofs.choosing.of_block.Given as goal

@@ -1,8 +1,8 @@
 use Rattle.std.proofs.Common.{◌∙◌}
 use Rattle.script_text.specs.Action.{action_of}
-use Rattle.cut_places.proofs.StepLemmas.{whole_after}
-use Rattle.value_tables.proofs.PlaceLemmas.{of_after}
-use Rattle.value_tables.proofs.WithinLemmas.{is_within}
+use Rattle.explorer.proofs.CutPlaces.StepLemmas.{whole_after}
+use Rattle.explorer.proofs.ValueTables.PlaceLemmas.{of_after}
+use Rattle.explorer.proofs.ValueTables.WithinLemmas.{is_within}
 use Rattle.outcome_lists.proofs.ResultLemmas.{on_ok_all}
 use Rattle.outcome_lists.proofs.CourseLemmas.{follows_done, follows_refused}
 use Rattle.outcome_lists.proofs.course.follow.Goals as goal

@@ -1,7 +1,7 @@
 use Rattle.std.proofs.Common.{[], ◌∷◌, ◌++◌, ap, false, get_or, map, refl, sym, ◌∙◌}
-use Rattle.outcomes.specs.Seen.{may_show}
-use Rattle.asked_reads.specs.Program.{inputs_of_lines}
-use Rattle.cut_places.proofs.GoingLemmas.{program_at}
+use Rattle.explorer.specs.Outcomes.Seen.{may_show}
+use Rattle.explorer.specs.AskedReads.Program.{inputs_of_lines}
+use Rattle.explorer.proofs.CutPlaces.GoingLemmas.{program_at}
 use Rattle.outcome_lists.specs.Asking.{asked}
 use Rattle.outcome_lists.specs.Choices.{states}
 use Rattle.outcome_lists.specs.Outcomes.{look_of}

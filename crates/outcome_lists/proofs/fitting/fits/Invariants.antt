@@ -1,10 +1,10 @@
 use Rattle.std.proofs.Common.{◌≡◌, [], ◌∷◌, ◌++◌, List, Option, map}
 use Rattle.script_text.specs.declared.command.Command.{Command}
-use Rattle.machine_host.specs.Machine.{Machine}
-use Rattle.outcomes.specs.Seen.{may_show}
-use Rattle.asked_reads.specs.Program.{inputs_of_lines}
-use Rattle.cut_places.specs.Following.{IsWhole}
-use Rattle.value_tables.specs.Looking.{IsOf}
+use Rattle.explorer.specs.MachineModel.Machine.{Machine}
+use Rattle.explorer.specs.Outcomes.Seen.{may_show}
+use Rattle.explorer.specs.AskedReads.Program.{inputs_of_lines}
+use Rattle.explorer.specs.CutPlaces.Following.{IsWhole}
+use Rattle.explorer.specs.ValueTables.Looking.{IsOf}
 use Rattle.outcome_lists.specs.Asking.{asked}
 use Rattle.outcome_lists.specs.Choices.{states}
 use Rattle.outcome_lists.specs.Courses.{IsFrom}

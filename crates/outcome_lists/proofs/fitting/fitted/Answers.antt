@@ -1,5 +1,5 @@
 use Rattle.std.proofs.Common.{List, [], ◌∷◌, subst}
-use Rattle.asked_reads.specs.Program.{inputs_of_lines}
+use Rattle.explorer.specs.AskedReads.Program.{inputs_of_lines}
 use Rattle.outcome_walk.specs.Holding.{way_held}
 use Rattle.outcome_lists.specs.declared.choice.Choice.{Choice}
 use Rattle.outcome_lists.specs.Asking.{choice_held, choices_held}
@@ -7,7 +7,7 @@ use Rattle.outcome_lists.specs.Choices.{states}
 use Rattle.outcome_lists.specs.Courses.{AllWith}
 use Rattle.outcome_lists.specs.Levels.{fitted}
 use Rattle.outcome_lists.specs.Outcomes.{nothing}
-use Rattle.cut_places.proofs.GoingLemmas.{at_line}
+use Rattle.explorer.proofs.CutPlaces.GoingLemmas.{at_line}
 use Rattle.outcome_lists.proofs.MappedLemmas.{held_next}
 use Rattle.outcome_lists.proofs.fitting.fitted.Goals as goal
 

@@ -1,6 +1,6 @@
 use Rattle.std.proofs.Common.{◌≡◌, [], ◌∷◌, drop, map, take}
-use Rattle.machine_host.specs.Machine.{Machine}
-use Rattle.asked_reads.specs.Program.{inputs_of_lines}
+use Rattle.explorer.specs.MachineModel.Machine.{Machine}
+use Rattle.explorer.specs.AskedReads.Program.{inputs_of_lines}
 use Rattle.outcome_walk.specs.Holding.{ways_held}
 use Rattle.outcome_lists.specs.Asking.{choices_held}
 use Rattle.outcome_lists.specs.Choices.{states}

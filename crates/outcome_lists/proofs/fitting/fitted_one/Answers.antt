@@ -1,5 +1,5 @@
 use Rattle.std.proofs.Common.{[], ◌∷◌, ap, subst, sym, ◌∙◌}
-use Rattle.asked_reads.specs.Program.{inputs_of_lines}
+use Rattle.explorer.specs.AskedReads.Program.{inputs_of_lines}
 use Rattle.outcome_lists.specs.Asking.{asked, choice_held, seen_asked}
 use Rattle.outcome_lists.specs.Choices.{states}
 use Rattle.outcome_lists.specs.Courses.{AreOf}

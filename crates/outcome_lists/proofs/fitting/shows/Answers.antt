@@ -1,5 +1,5 @@
 use Rattle.std.proofs.Common.{ap, sym, ◌&&◌, ◌∙◌}
-use Rattle.cut_places.specs.Sights.{shows}
+use Rattle.explorer.specs.CutPlaces.Sights.{shows}
 use Rattle.outcome_lists.proofs.FitLemmas.{shown}
 use Rattle.outcome_lists.proofs.fitting.shows.Goals as goal
 

@@ -1,6 +1,6 @@
 use Rattle.std.proofs.Common.{[], ◌∷◌, ap, false, get_or, refl, sym, ◌∙◌}
-use Rattle.asked_reads.specs.Program.{inputs_of_lines}
-use Rattle.cut_places.proofs.GoingLemmas.{program_at}
+use Rattle.explorer.specs.AskedReads.Program.{inputs_of_lines}
+use Rattle.explorer.proofs.CutPlaces.GoingLemmas.{program_at}
 use Rattle.outcome_lists.specs.Choices.{sights_through, states, values_through}
 use Rattle.outcome_lists.proofs.CourseLemmas.{reaches_first, reaches_on, reaches_past, told_last}
 use Rattle.outcome_lists.proofs.GatherLemmas.{sights_on, values_on}

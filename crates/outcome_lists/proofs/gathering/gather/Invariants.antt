@@ -1,9 +1,9 @@
 use Rattle.std.proofs.Common.{◌≡◌, [], ◌∷◌, List, Option}
 use Rattle.script_text.specs.declared.command.Command.{Command}
-use Rattle.machine_host.specs.Machine.{Machine}
-use Rattle.asked_reads.specs.Program.{inputs_of_lines}
-use Rattle.cut_places.specs.Following.{AreDone, Follows}
-use Rattle.value_tables.specs.Looking.{IsOf}
+use Rattle.explorer.specs.MachineModel.Machine.{Machine}
+use Rattle.explorer.specs.AskedReads.Program.{inputs_of_lines}
+use Rattle.explorer.specs.CutPlaces.Following.{AreDone, Follows}
+use Rattle.explorer.specs.ValueTables.Looking.{IsOf}
 use Rattle.outcome_lists.specs.Choices.{sights_through, states, values_through}
 use Rattle.outcome_lists.proofs.CourseLemmas.{Reaches}
 use Rattle.outcome_lists.proofs.gathering.gather.Given as goal

@@ -1,5 +1,5 @@
 use Rattle.std.proofs.Common.{[], ◌∷◌, ap₂, subst, sym, ◌∙◌}
-use Rattle.cut_places.proofs.StepLemmas.{on_found}
+use Rattle.explorer.proofs.CutPlaces.StepLemmas.{on_found}
 use Rattle.outcome_lists.specs.Choices.{choices_from}
 use Rattle.outcome_lists.specs.Courses.{AllWith}
 use Rattle.outcome_lists.specs.Outcomes.{nothing}

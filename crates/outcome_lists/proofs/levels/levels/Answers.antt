@@ -1,10 +1,10 @@
 use Rattle.std.proofs.Common.{◌++◌, [], ◌∷◌, Bor, None, ap, drop, option_map, rules, ◌∙◌}
 use Rattle.std.proofs.lemmas.List.{map-append}
-use Rattle.asked_reads.specs.declared.read.Read.{Read}
-use Rattle.asked_reads.specs.Program.{inputs_of_lines}
+use Rattle.explorer.specs.AskedReads.declared.read.Read.{Read}
+use Rattle.explorer.specs.AskedReads.Program.{inputs_of_lines}
 use Rattle.outcome_walk.specs.declared.level.Level.{Level}
 use Rattle.outcome_walk.specs.Holding.{part_held, parts_held}
-use Rattle.sights.specs.Units.{block_numbers, line_numbers}
+use Rattle.explorer.specs.SightsSeen.Units.{block_numbers, line_numbers}
 use Rattle.outcome_lists.specs.Asking.{choices_held}
 use Rattle.outcome_lists.specs.Choices.{states}
 use Rattle.outcome_lists.specs.Levels.{levels}

@@ -1,12 +1,12 @@
 use Rattle.std.proofs.Common.{◌≡◌, ◌++◌, None, true, drop}
 use Rattle.std.specs.List.{list_all}
 use Rattle.std.specs.Option.{option_map}
-use Rattle.asked_reads.specs.Program.{inputs_of_lines}
-use Rattle.cut_places.specs.SeesFiles.{is_held}
-use Rattle.machine_host.specs.Machine.{Machine}
+use Rattle.explorer.specs.AskedReads.Program.{inputs_of_lines}
+use Rattle.explorer.specs.CutPlaces.SeesFiles.{is_held}
+use Rattle.explorer.specs.MachineModel.Machine.{Machine}
 use Rattle.outcome_walk.specs.Holding.{parts_held}
-use Rattle.sights.specs.Units.{block_numbers, line_numbers}
-use Rattle.value_tables.specs.Looking.{blocks_looked_at, file_lines_looked_at, lines_looked_at}
+use Rattle.explorer.specs.SightsSeen.Units.{block_numbers, line_numbers}
+use Rattle.explorer.specs.ValueTables.Looking.{blocks_looked_at, file_lines_looked_at, lines_looked_at}
 use Rattle.outcome_lists.specs.Choices.{states}
 use Rattle.outcome_lists.specs.Courses.{IsFrom}
 use Rattle.outcome_lists.specs.Levels.{levels}

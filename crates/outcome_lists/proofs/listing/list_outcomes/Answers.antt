@@ -1,13 +1,13 @@
 use Rattle.std.proofs.Common.{ap, subst, sym, ◌∙◌}
 use Rattle.std.specs.List.{list_all}
-use Rattle.asked_reads.specs.Asking.{files_asked}
-use Rattle.cut_places.specs.Following.{AreDone, Follows}
-use Rattle.cut_places.specs.SeesFiles.{is_held}
-use Rattle.value_tables.specs.Looking.{blocks_looked_at, file_lines_looked_at, lines_looked_at}
+use Rattle.explorer.specs.AskedReads.Asking.{files_asked}
+use Rattle.explorer.specs.CutPlaces.Following.{AreDone, Follows}
+use Rattle.explorer.specs.CutPlaces.SeesFiles.{is_held}
+use Rattle.explorer.specs.ValueTables.Looking.{blocks_looked_at, file_lines_looked_at, lines_looked_at}
 use Rattle.explorer.proofs.LookingLemmas.{held_read}
 use Rattle.word_tables.specs.declared.geometry.Geometry.{Geometry}
-use Rattle.asked_reads.specs.Program.{inputs_of_lines}
-use Rattle.outcomes.specs.Finds.{armed}
+use Rattle.explorer.specs.AskedReads.Program.{inputs_of_lines}
+use Rattle.explorer.specs.Outcomes.Finds.{armed}
 use Rattle.outcome_lists.specs.Lists.{list_text}
 use Rattle.outcome_lists.specs.Outcomes.{outcomes_of}
 use Rattle.outcome_lists.specs.Parts.{parts_of}

@@ -1,7 +1,7 @@
 use Rattle.std.proofs.Common.{◌++◌, None, ap, subst, sym, ◌∙◌}
 use Rattle.word_tables.specs.declared.geometry.Geometry.{Geometry}
 use Rattle.outcome_walk.specs.Holding.{parts_held}
-use Rattle.asked_reads.specs.Program.{inputs_of_lines}
+use Rattle.explorer.specs.AskedReads.Program.{inputs_of_lines}
 use Rattle.outcome_lists.specs.Choices.{states}
 use Rattle.outcome_lists.specs.Levels.{levels, places}
 use Rattle.outcome_lists.specs.Parts.{AreParts}

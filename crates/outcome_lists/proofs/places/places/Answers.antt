@@ -1,5 +1,5 @@
 use Rattle.std.proofs.Common.{[], false, get_or, refl, sym, ◌+◌, ◌∙◌}
-use Rattle.cut_places.proofs.GoingLemmas.{program_at}
+use Rattle.explorer.proofs.CutPlaces.GoingLemmas.{program_at}
 use Rattle.outcome_lists.proofs.PlaceLemmas.{all_found, files_alone, files_follow, found_first, found_on, found_past}
 use Rattle.outcome_lists.proofs.places.places.Goals.{in-Some+in_ok-add_places+in_ok-follow, in_default}
 use Rattle.outcome_lists.proofs.places.places.Goals as goal

@@ -18,8 +18,8 @@ use Rattle.nvm_model.specs.Events.{bad_numbers, restart_events}
 use Rattle.file_actions.specs.Rewriting.{first_lost, rewritten}
 use Rattle.nvm_model.specs.Touched.{bad_touched, next_bad_touched, persist_spans}
 use Rattle.script_text.specs.Script.{lines_of, words_of, command_action, line_input}
-use Rattle.machine_host.specs.Commands.{refusal}
-use Rattle.machine_host.specs.Restarting.{reading}
+use Rattle.explorer.specs.MachineModel.Commands.{refusal}
+use Rattle.explorer.specs.MachineModel.Restarting.{reading}
 use Rattle.outcome_walk.specs.Numbers.{numeral}
 use Rattle.outcome_lists.proofs.rows.worked_lists.Goals as goal
 

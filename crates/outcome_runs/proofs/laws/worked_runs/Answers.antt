@@ -6,8 +6,8 @@ use Rattle.nvm_base.specs.Numbers.{number_of}
 use Rattle.nvm_base.specs.Data.{runs_of, data_within, data_text}
 use Rattle.word_tables.specs.Bounds.{IsValid}
 use Rattle.script_text.specs.Script.{inputs, lines_of, words_of, command_action, line_input}
-use Rattle.machine_host.specs.Restarting.{fresh}
-use Rattle.machine_host.specs.Rows.{small, text}
+use Rattle.machine_model.specs.Restarting.{fresh}
+use Rattle.machine_model.specs.WorkedScripts.{small, text}
 use Rattle.outcomes.specs.Finds.{may_find}
 use Rattle.outcomes.specs.Rows.{counted_too_early, one_of_two}
 use Rattle.outcomes.specs.Seen.{Seen}

@@ -10,7 +10,8 @@ use Rattle.page_lines.proofs.OthersLemmas.{others-refl}
 use Rattle.page_lines.proofs.ResultLemmas.{by_answer, on_ok-then}
 use Rattle.file_pages.proofs.WorkLemmas.{reads-left}
 use Rattle.scrub.specs.Refusals.{scrub_says}
-use Rattle.scrub.proofs.FileChangedLemmas.{file_apart, file-marks, file-others, file-serves, files-changed_at, files-written}
+use Rattle.marked_lines.proofs.ApartLemmas.{file_apart}
+use Rattle.scrub.proofs.FileChangedLemmas.{file-marks, file-others, file-serves, files-changed_at, files-written}
 use Rattle.scrub.proofs.FilePlaceLemmas.{file_clear_there}
 use Rattle.scrub.proofs.HealLemmas.{clear-err, clear-ok, clear-others, on_err}
 use Rattle.scrub.proofs.OthersLemmas.{but-others}

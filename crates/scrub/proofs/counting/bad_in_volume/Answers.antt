@@ -3,8 +3,8 @@ use Rattle.std.proofs.lemmas.List.{take_all}
 use Rattle.std.proofs.lemmas.List.Sums.{sum_by_more}
 use Rattle.nvm_model.specs.Page.Page.{Absent}
 use Rattle.pm_volume.proofs.TurnLemmas.{length-pages}
-use Rattle.scrub.specs.Counting.{bad_in_page}
-use Rattle.scrub.proofs.CountLemmas.{bad_lines-sum}
+use Rattle.marked_lines.specs.Counting.{bad_in_page}
+use Rattle.marked_lines.proofs.CountLemmas.{bad_lines-sum}
 use Rattle.scrub.proofs.counting.bad_in_volume.Goals as goal
 
 pub loop-page-preserved : goal.loop-page-preserved

@@ -1,7 +1,7 @@
 use Rattle.std.proofs.Common.{◌≡◌, ◌≤◌, ◌*◌, List, sum_by, take}
 use Rattle.nvm_model.specs.Page.{Page}
 use Rattle.pm_volume.specs.Object.{VolumeHolds}
-use Rattle.scrub.specs.Counting.{bad_in_page}
+use Rattle.marked_lines.specs.Counting.{bad_in_page}
 use Rattle.scrub.proofs.counting.bad_in_volume.Given as goal
 
 abbrev pub invariant-loop-page : goal.invariant-loop-page

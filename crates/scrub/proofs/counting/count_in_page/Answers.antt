@@ -1,5 +1,5 @@
 use Rattle.std.proofs.Common.{◌+◌, ◌*◌, refl, sym, ◌∙◌, arith}
-use Rattle.scrub.proofs.CountLemmas.{page_bad, page_bad-none}
+use Rattle.scrub.proofs.PageCountLemmas.{page_bad, page_bad-none}
 use Rattle.scrub.proofs.PlacedLemmas.{on_device}
 use Rattle.scrub.proofs.counting.count_in_page.Goals as goal
 

@@ -1,10 +1,11 @@
 use Rattle.nvm_base.specs.declared.units.LineNo.{LineNo}
 use Rattle.block_device.specs.Object.{blocks_of}
 use Rattle.block_device.proofs.PoisonLemmas.{serves-poisoned}
-use Rattle.scrub.specs.Refusals.{block_refusal, place_says}
+use Rattle.marked_lines.specs.Refusals.{block_refusal}
+use Rattle.scrub.specs.Refusals.{place_says}
 use Rattle.scrub.proofs.LostLemmas.{lost-blocks, lost-on_device, lost-outside}
 use Rattle.scrub.proofs.OthersLemmas.{but-refl}
-use Rattle.scrub.proofs.PlacedLemmas.{told-err, told-ok}
+use Rattle.marked_lines.proofs.ToldLemmas.{told-err, told-ok}
 use Rattle.scrub.proofs.poisoning.poison_block.Goals as goal
 
 pub returns-in_err-found-clause-refused : goal.returns-in_err-found-clause-refused

@@ -1,11 +1,13 @@
 use Rattle.std.proofs.Common.{◌/◌, true, false, []}
 use Rattle.nvm_base.specs.declared.units.LineNo.{LineNo}
 use Rattle.nvm_model.specs.Cell.{lose_cell}
-use Rattle.scrub.specs.Refusals.{file_refusal, place_says}
-use Rattle.scrub.proofs.FileChangedLemmas.{file_apart, file-marks, file-outside, file-serves, files-changed_at}
+use Rattle.marked_lines.specs.Refusals.{file_refusal}
+use Rattle.scrub.specs.Refusals.{place_says}
+use Rattle.marked_lines.proofs.ApartLemmas.{file_apart}
+use Rattle.scrub.proofs.FileChangedLemmas.{file-marks, file-outside, file-serves, files-changed_at}
 use Rattle.scrub.proofs.LineLemmas.{changes-poisoned}
 use Rattle.scrub.proofs.OthersLemmas.{but-refl, but-renewed}
-use Rattle.scrub.proofs.PlacedLemmas.{told-err, told-ok}
+use Rattle.marked_lines.proofs.ToldLemmas.{told-err, told-ok}
 use Rattle.scrub.proofs.poisoning.poison_file.Goals as goal
 
 pub returns-in_err-line-clause-refused : goal.returns-in_err-line-clause-refused

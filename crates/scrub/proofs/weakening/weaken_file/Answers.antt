@@ -1,6 +1,7 @@
 use Rattle.std.proofs.Common.{◌≡◌, ◌/◌}
 use Rattle.nvm_model.specs.Cell.{weaken_cell}
-use Rattle.scrub.proofs.FileChangedLemmas.{file_apart, file-marks, file-outside, file-serves, files-changed_at}
+use Rattle.marked_lines.proofs.ApartLemmas.{file_apart}
+use Rattle.scrub.proofs.FileChangedLemmas.{file-marks, file-outside, file-serves, files-changed_at}
 use Rattle.scrub.proofs.LineLemmas.{changes-weakened}
 use Rattle.scrub.proofs.OthersLemmas.{but-refl, but-weakens, but-write_back}
 use Rattle.scrub.proofs.weakening.weaken_file.Goals as goal

@@ -7,7 +7,7 @@ use Rattle.nvm_model.specs.Numbered.{is_among}
 use Rattle.asked_reads.specs.Fitting.{sight_allows}
 use Rattle.asked_reads.specs.Reads.{block_read, block_reply}
 use Rattle.asked_reads.specs.declared.reads.BlockRead.{BlockRead as Asked}
-use Rattle.outcomes.specs.Blocks.{BlockRead}
+use Rattle.asked_reads.specs.Outcomes.Blocks.{BlockRead}
 use Rattle.sights.proofs.blocks_fit.block_fits.Goals as goal
 
 pub returns : goal.returns

@@ -5,7 +5,7 @@ use Rattle.std.proofs.lemmas.Iterator.Search.{all_from_yields_List}
 use Rattle.std.proofs.lemmas.List.Folds.{list_all-map}
 use Rattle.asked_reads.specs.Reads.{page_read, page_reply}
 use Rattle.asked_reads.specs.declared.reads.PageRead.{PageRead as Asked}
-use Rattle.outcomes.specs.Pages.{PageRead, agrees}
+use Rattle.asked_reads.specs.Outcomes.Pages.{PageRead, agrees}
 use Rattle.sights.proofs.lines_fit.agree.Goals as goal
 
 pub returns : goal.returns

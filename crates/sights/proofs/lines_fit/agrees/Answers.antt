@@ -1,5 +1,5 @@
 use Rattle.std.proofs.Common.{ap, not, sym, ◌∙◌}
-use Rattle.outcomes.specs.Pages.{agrees}
+use Rattle.asked_reads.specs.Outcomes.Pages.{agrees}
 use Rattle.asked_reads.specs.Reads.{page_reply}
 use Rattle.sights.proofs.ReachLemmas.{unreached}
 use Rattle.sights.proofs.lines_fit.agrees.Goals as goal

@@ -1,6 +1,6 @@
 -- A bad line is asked of, or a good one.
 use Rattle.std.proofs.Common.{◌≡◌, true, false, ◌∙◌}
-use Rattle.outcomes.specs.Pages.{all_allow_good}
+use Rattle.asked_reads.specs.Outcomes.Pages.{all_allow_good}
 use Rattle.asked_reads.specs.Reads.{pages_asked}
 use Rattle.sights.proofs.FitLemmas.{bad_fits, good_fits, no_good_fits}
 use Rattle.sights.proofs.lines_fit.line_fits.Goals as goal

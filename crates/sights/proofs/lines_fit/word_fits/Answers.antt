@@ -4,7 +4,7 @@ use Rattle.std.specs.List.{list_any}
 use Rattle.std.proofs.lemmas.Iterator.{YieldsList-from_slice}
 use Rattle.std.proofs.lemmas.Iterator.Search.{any_from_yields_List}
 use Rattle.line_histories.specs.declared.log.Stored.{Stored}
-use Rattle.outcomes.specs.Pages.{all_agree}
+use Rattle.asked_reads.specs.Outcomes.Pages.{all_agree}
 use Rattle.asked_reads.specs.Reads.{pages_asked}
 use Rattle.sights.proofs.FitLemmas.{word_fits_by}
 use Rattle.sights.proofs.lines_fit.word_fits.Goals as goal

@@ -5,7 +5,7 @@ use Rattle.std.proofs.lemmas.Iterator.{YieldsList-from_range}
 use Rattle.std.proofs.lemmas.Iterator.Search.{all_from_yields_List}
 use Rattle.nvm_model.specs.Cell.{Cell}
 use Rattle.nvm_model.specs.Cell.Cell.{Bad, Kept}
-use Rattle.outcomes.specs.Pages.{all_agree}
+use Rattle.asked_reads.specs.Outcomes.Pages.{all_agree}
 use Rattle.asked_reads.specs.Reads.{pages_asked}
 use Rattle.asked_reads.specs.Fitting.{WordFits, WordsFit}
 use Rattle.sights.proofs.lines_fit.words_fit.Goals as goal

@@ -5,7 +5,7 @@ use Rattle.std.proofs.lemmas.Iterator.Search.{all_from_yields_List}
 use Rattle.std.proofs.lemmas.List.Folds.{list_all-map}
 use Rattle.asked_reads.specs.Reads.{block_read}
 use Rattle.asked_reads.specs.declared.reads.BlockRead.{BlockRead}
-use Rattle.outcomes.specs.Blocks.{is_block_reply}
+use Rattle.asked_reads.specs.Outcomes.Blocks.{is_block_reply}
 use Rattle.sights.proofs.replies.are_replies_of_blocks.Goals as goal
 
 pub returns : goal.returns

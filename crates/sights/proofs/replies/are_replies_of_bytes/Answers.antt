@@ -5,7 +5,7 @@ use Rattle.std.proofs.lemmas.Iterator.Search.{all_from_yields_List}
 use Rattle.std.proofs.lemmas.List.Folds.{list_all-map}
 use Rattle.asked_reads.specs.Reads.{page_read}
 use Rattle.asked_reads.specs.declared.reads.PageRead.{PageRead}
-use Rattle.outcomes.specs.Pages.{is_reply}
+use Rattle.asked_reads.specs.Outcomes.Pages.{is_reply}
 use Rattle.sights.proofs.replies.are_replies_of_bytes.Goals as goal
 
 pub returns : goal.returns

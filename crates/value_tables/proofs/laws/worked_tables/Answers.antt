@@ -19,8 +19,8 @@ use Rattle.nvm_model.specs.Events.{bad_numbers, restart_events}
 use Rattle.file_actions.specs.Rewriting.{first_lost, rewritten}
 use Rattle.nvm_model.specs.Touched.{bad_touched, next_bad_touched, persist_spans}
 use Rattle.script_text.specs.Script.{lines_of, words_of, command_action, line_input}
-use Rattle.machine_host.specs.Commands.{refusal}
-use Rattle.machine_host.specs.Restarting.{reading}
+use Rattle.cut_places.specs.MachineModel.Commands.{refusal}
+use Rattle.cut_places.specs.MachineModel.Restarting.{reading}
 use Rattle.value_tables.proofs.laws.worked_tables.Goals as goal
 
 pub returns : goal.returns

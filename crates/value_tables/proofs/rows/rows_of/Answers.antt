@@ -1,4 +1,4 @@
-use Rattle.sights.specs.Units.{block_numbers, line_numbers}
+use Rattle.cut_places.specs.SightsSeen.Units.{block_numbers, line_numbers}
 use Rattle.value_tables.specs.Rows.{rows_text}
 use Rattle.value_tables.specs.Sides.{texts}
 use Rattle.value_tables.proofs.LookLemmas.{blocks_after, blocks_next, files_after, files_next, lines_after, lines_next, rows_after}

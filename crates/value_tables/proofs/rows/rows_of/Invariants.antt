@@ -2,7 +2,7 @@ use Rattle.std.proofs.Common.{◌≡◌, ◌+◌, ◌++◌, true, drop}
 use Rattle.std.specs.List.{list_all}
 use Rattle.std.specs.Option.{option_copied}
 use Rattle.cut_places.specs.SeesFiles.{is_held}
-use Rattle.sights.specs.Units.{block_numbers, line_numbers}
+use Rattle.cut_places.specs.SightsSeen.Units.{block_numbers, line_numbers}
 use Rattle.value_tables.specs.Left.{Found}
 use Rattle.value_tables.specs.Looking.{blocks_looked_at, file_lines_looked_at, lines_looked_at}
 use Rattle.value_tables.specs.Rows.{rows_text}

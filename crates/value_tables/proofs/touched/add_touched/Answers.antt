@@ -2,8 +2,8 @@ use Rattle.std.proofs.Common.{◌+◌, ◌-◌, ◌*◌, ◌/◌, ◌++◌, leng
 use Rattle.std.specs.List.{range_with_len}
 use Rattle.std.proofs.lemmas.List.FromFn.{length-range_with_len}
 use Rattle.nvm_base.specs.declared.units.Span.{Span}
-use Rattle.machine_host.proofs.RefusalLemmas.{read_within}
-use Rattle.sights.specs.Units.{block_numbers, line_numbers}
+use Rattle.cut_places.proofs.MachineModel.RefusalLemmas.{read_within}
+use Rattle.cut_places.specs.SightsSeen.Units.{block_numbers, line_numbers}
 use Rattle.value_tables.specs.declared.shown.Shown.TheVariants.{Block}
 use Rattle.value_tables.specs.Looking.{blocks_touched, lines_touched}
 use Rattle.value_tables.specs.Rows.{read_refusal, row_text, touched}

@@ -1,6 +1,6 @@
 use Rattle.std.proofs.Common.{◌≡◌, ◌+◌, ◌-◌, ◌/◌, ◌<◌, ◌++◌, map, refl, ap, ◌∙◌, arith}
 use Rattle.std.specs.List.{range_with_len}
-use Rattle.sights.specs.Units.{line_numbers}
+use Rattle.cut_places.specs.SightsSeen.Units.{line_numbers}
 use Rattle.value_tables.specs.declared.shown.Shown.TheVariants.{Word}
 use Rattle.value_tables.specs.Rows.{row_text}
 use Rattle.value_tables.specs.Sides.{texts}

@@ -2,9 +2,9 @@
 use Rattle.std.proofs.Common.{sym, ◌∙◌, rules, tests}
 use Rattle.std.proofs.lemmas.Iterator.{YieldsList-from_slice}
 use Rattle.std.proofs.lemmas.Iterator.Search.{any_from_yields_List}
-use Rattle.asked_reads.specs.Reads.{page_read, page_reply}
-use Rattle.asked_reads.specs.declared.reads.PageRead.{PageRead as Asked}
-use Rattle.outcomes.specs.Pages.{PageRead}
+use Rattle.cut_places.specs.AskedReads.Reads.{page_read, page_reply}
+use Rattle.cut_places.specs.AskedReads.declared.reads.PageRead.{PageRead as Asked}
+use Rattle.cut_places.specs.Outcomes.Pages.{PageRead}
 use Rattle.witnesses.specs.Texts.{asks_word}
 use Rattle.witnesses.proofs.ListLemmas.{any_map}
 use Rattle.witnesses.proofs.asked.is_asked.Goals as goal

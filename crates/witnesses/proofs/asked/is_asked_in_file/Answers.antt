@@ -3,9 +3,9 @@ use Rattle.std.proofs.Common.{◌&&◌, ◌∙◌, rules, tests}
 use Rattle.std.specs.Str.{bytes_eq}
 use Rattle.std.proofs.lemmas.Iterator.{YieldsList-from_slice}
 use Rattle.std.proofs.lemmas.Iterator.Search.{any_from_yields_List}
-use Rattle.asked_reads.specs.Reads.{page_reply}
-use Rattle.outcomes.specs.Pages.{PageRead}
-use Rattle.asked_reads.specs.declared.reads.FileRead.{FileRead as Asked}
+use Rattle.cut_places.specs.AskedReads.Reads.{page_reply}
+use Rattle.cut_places.specs.Outcomes.Pages.{PageRead}
+use Rattle.cut_places.specs.AskedReads.declared.reads.FileRead.{FileRead as Asked}
 use Rattle.witnesses.specs.Texts.{asks_word}
 use Rattle.witnesses.proofs.ListLemmas.{any_of_file}
 use Rattle.witnesses.proofs.asked.is_asked_in_file.Goals as goal

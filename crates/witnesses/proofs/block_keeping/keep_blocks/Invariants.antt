@@ -1,7 +1,7 @@
 use Rattle.std.proofs.Common.{◌≡◌, map, option_map, take}
 use Rattle.std.specs.Option.{option_copied}
 use Rattle.script_text.specs.Action.{action_of}
-use Rattle.asked_reads.specs.Asking.{blocks_of}
+use Rattle.cut_places.specs.AskedReads.Asking.{blocks_of}
 use Rattle.witnesses.specs.Blocks.{block_kept}
 use Rattle.witnesses.proofs.block_keeping.keep_blocks.Given as goal
 

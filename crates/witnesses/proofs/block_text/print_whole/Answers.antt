@@ -1,6 +1,6 @@
 use Rattle.std.proofs.Common.{codes, decimal}
 use Rattle.witnesses.specs.Texts.{whole_text}
-use Rattle.sights.specs.BlockTelling.{sight_text}
+use Rattle.cut_places.specs.SightsSeen.BlockTelling.{sight_text}
 use Rattle.witnesses.proofs.TextLemmas.{ok_more, three}
 use Rattle.witnesses.proofs.block_text.print_whole.Goals as goal
 

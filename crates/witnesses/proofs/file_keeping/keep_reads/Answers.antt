@@ -1,6 +1,6 @@
 -- One more read is kept.
-use Rattle.asked_reads.specs.Asking.{may_be_file_reply}
-use Rattle.asked_reads.specs.Reads.{file_read, file_reads_asked}
+use Rattle.cut_places.specs.AskedReads.Asking.{may_be_file_reply}
+use Rattle.cut_places.specs.AskedReads.Reads.{file_read, file_reads_asked}
 use Rattle.witnesses.specs.Files.{read_kept}
 use Rattle.witnesses.proofs.ListLemmas.{appended_of, item_passes}
 use Rattle.witnesses.proofs.file_keeping.keep_reads.Goals as goal

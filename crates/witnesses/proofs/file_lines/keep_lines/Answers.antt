@@ -1,6 +1,6 @@
 -- One more line is kept.
 use Rattle.std.specs.Option.{option_copied}
-use Rattle.asked_reads.specs.Reads.{file_reads_asked}
+use Rattle.cut_places.specs.AskedReads.Reads.{file_reads_asked}
 use Rattle.witnesses.specs.Files.{line_kept_of}
 use Rattle.witnesses.proofs.TextLemmas.{one_more_made}
 use Rattle.witnesses.proofs.file_lines.keep_lines.Goals as goal

@@ -1,7 +1,7 @@
 use Rattle.std.proofs.Common.{◌≡◌, ◌++◌, map}
 use Rattle.std.specs.List.{range_with_len}
 use Rattle.std.specs.Option.{option_copied}
-use Rattle.asked_reads.specs.Reads.{file_reads_asked}
+use Rattle.cut_places.specs.AskedReads.Reads.{file_reads_asked}
 use Rattle.witnesses.specs.Files.{line_kept_of}
 use Rattle.witnesses.proofs.file_lines.keep_lines.Given as goal
 

@@ -2,8 +2,8 @@
 use Rattle.std.proofs.Common.{◌≡◌, ap, map, option_map, subst, ◌∙◌}
 use Rattle.std.specs.Option.{option_copied}
 use Rattle.script_text.specs.Action.{action_of}
-use Rattle.asked_reads.specs.Asking.{blocks_of, files_asked, volume_asked}
-use Rattle.asked_reads.specs.Reads.{file_reads_asked}
+use Rattle.cut_places.specs.AskedReads.Asking.{blocks_of, files_asked, volume_asked}
+use Rattle.cut_places.specs.AskedReads.Reads.{file_reads_asked}
 use Rattle.witnesses.specs.Blocks.{block_kept, numbers_of_blocks}
 use Rattle.witnesses.specs.Files.{files_kept, files_made, left_there, places_of}
 use Rattle.witnesses.specs.Lines.{line_kept, numbers_of_lines}

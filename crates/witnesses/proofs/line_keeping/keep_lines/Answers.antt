@@ -2,11 +2,11 @@
 use Rattle.std.proofs.Common.{◌≡◌, ◌/◌, Bool, Option, ap, cond, option_map, rules, ◌∙◌}
 use Rattle.std.specs.Option.{option_and_then, option_copied}
 use Rattle.script_text.specs.Action.{action_of}
-use Rattle.asked_reads.specs.Asking.{volume_asked}
-use Rattle.sights.specs.declared.line_seen.LineSeen.{LineSeen}
-use Rattle.sights.specs.declared.way.Way.{Way}
-use Rattle.sights.specs.Units.{line_may_fit}
-use Rattle.sights.specs.Ways.{lines_way}
+use Rattle.cut_places.specs.AskedReads.Asking.{volume_asked}
+use Rattle.cut_places.specs.SightsSeen.declared.line_seen.LineSeen.{LineSeen}
+use Rattle.cut_places.specs.SightsSeen.declared.way.Way.{Way}
+use Rattle.cut_places.specs.SightsSeen.Units.{line_may_fit}
+use Rattle.cut_places.specs.SightsSeen.Ways.{lines_way}
 use Rattle.witnesses.specs.Leaving.{stays}
 use Rattle.witnesses.specs.Lines.{kept_line, line_kept, line_made}
 use Rattle.witnesses.proofs.ListLemmas.{pushed}

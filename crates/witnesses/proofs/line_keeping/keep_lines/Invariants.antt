@@ -1,7 +1,7 @@
 use Rattle.std.proofs.Common.{◌≡◌, map, option_map, take}
 use Rattle.std.specs.Option.{option_copied}
 use Rattle.script_text.specs.Action.{action_of}
-use Rattle.asked_reads.specs.Asking.{volume_asked}
+use Rattle.cut_places.specs.AskedReads.Asking.{volume_asked}
 use Rattle.witnesses.specs.Lines.{line_kept}
 use Rattle.witnesses.proofs.line_keeping.keep_lines.Given as goal
 

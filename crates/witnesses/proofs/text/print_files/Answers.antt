@@ -1,5 +1,5 @@
 -- One more line of a file is told.
-use Rattle.asked_reads.specs.Reads.{file_reads_asked}
+use Rattle.cut_places.specs.AskedReads.Reads.{file_reads_asked}
 use Rattle.witnesses.specs.Texts.{file_line_text, same_file_line}
 use Rattle.witnesses.proofs.TextLemmas.{told_next}
 use Rattle.witnesses.proofs.text.print_files.Goals as goal

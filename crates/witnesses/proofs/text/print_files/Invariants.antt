@@ -1,5 +1,5 @@
 use Rattle.std.proofs.Common.{◌≡◌, ◌++◌, [], drop, take}
-use Rattle.asked_reads.specs.Reads.{file_reads_asked}
+use Rattle.cut_places.specs.AskedReads.Reads.{file_reads_asked}
 use Rattle.witnesses.specs.Texts.{file_line_text, same_file_line, texts_once}
 use Rattle.witnesses.proofs.text.print_files.Given as goal
 

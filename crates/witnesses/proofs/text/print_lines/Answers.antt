@@ -1,5 +1,5 @@
 -- One more line is told.
-use Rattle.asked_reads.specs.Reads.{pages_asked}
+use Rattle.cut_places.specs.AskedReads.Reads.{pages_asked}
 use Rattle.witnesses.specs.Texts.{line_text, same_line}
 use Rattle.witnesses.proofs.TextLemmas.{told_next}
 use Rattle.witnesses.proofs.text.print_lines.Goals as goal

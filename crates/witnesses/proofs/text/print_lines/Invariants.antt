@@ -1,5 +1,5 @@
 use Rattle.std.proofs.Common.{◌≡◌, ◌++◌, [], drop, take}
-use Rattle.asked_reads.specs.Reads.{pages_asked}
+use Rattle.cut_places.specs.AskedReads.Reads.{pages_asked}
 use Rattle.witnesses.specs.Texts.{line_text, same_line, texts_once}
 use Rattle.witnesses.proofs.text.print_lines.Given as goal
 

@@ -3,7 +3,7 @@ use Rattle.std.proofs.Common.{◌==◌, ◌&&◌, ◌++◌, Bool, cond, [], ap, 
 use Rattle.std.specs.Str.{bytes_eq}
 use Rattle.std.proofs.lemmas.Iterator.{YieldsList-from_slice}
 use Rattle.std.proofs.lemmas.Iterator.Search.{any_from_yields_List}
-use Rattle.asked_reads.specs.Reads.{file_reads_asked}
+use Rattle.cut_places.specs.AskedReads.Reads.{file_reads_asked}
 use Rattle.witnesses.specs.declared.file_kept.FileLineKept.{FileLineKept}
 use Rattle.witnesses.specs.Texts.{file_line_text}
 use Rattle.witnesses.proofs.TextLemmas.{ok_more}

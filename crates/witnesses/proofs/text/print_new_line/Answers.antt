@@ -2,7 +2,7 @@
 use Rattle.std.proofs.Common.{◌==◌, ◌++◌, Bool, cond, [], ap, rules, sym, tests, ◌∙◌}
 use Rattle.std.proofs.lemmas.Iterator.{YieldsList-from_slice}
 use Rattle.std.proofs.lemmas.Iterator.Search.{any_from_yields_List}
-use Rattle.asked_reads.specs.Reads.{pages_asked}
+use Rattle.cut_places.specs.AskedReads.Reads.{pages_asked}
 use Rattle.witnesses.specs.declared.line_kept.LineKept.{LineKept}
 use Rattle.witnesses.specs.Texts.{line_text}
 use Rattle.witnesses.proofs.TextLemmas.{ok_more}

@@ -4,7 +4,7 @@ use Rattle.std.specs.Option.{option_copied}
 use Rattle.std.proofs.lemmas.Iterator.{YieldsList-from_slice}
 use Rattle.std.proofs.lemmas.Iterator.Search.{find_from_yields_List}
 use Rattle.line_histories.specs.declared.log.Stored.{Stored}
-use Rattle.outcomes.specs.Pages.{all_agree}
+use Rattle.cut_places.specs.Outcomes.Pages.{all_agree}
 use Rattle.witnesses.specs.Asked.{reads_in}
 use Rattle.witnesses.proofs.ValueLemmas.{agreed_by, value_of}
 use Rattle.witnesses.proofs.words.agreed_value.Goals as goal

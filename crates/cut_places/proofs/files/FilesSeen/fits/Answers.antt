@@ -1,5 +1,5 @@
 use Rattle.std.proofs.Common.{sym, ap, ◌∙◌}
-use Rattle.asked_reads.specs.Reads.{file_reads_asked}
+use Rattle.sights.specs.AskedReads.Reads.{file_reads_asked}
 use Rattle.cut_places.specs.FileFitting.{now_fits, reads_pass}
 use Rattle.cut_places.specs.FilesState.{FilesState}
 use Rattle.cut_places.proofs.InsideLemmas.{now_same}

@@ -5,10 +5,10 @@ use Rattle.std.proofs.lemmas.Bool.{and_from}
 use Rattle.std.proofs.lemmas.List.{take_all}
 use Rattle.std.proofs.lemmas.List.Folds.{list_all-map, list_all_at, list_all_more}
 use Rattle.nvm_model.specs.Listing.{file_of}
-use Rattle.asked_reads.specs.Reads.{page_read}
-use Rattle.outcomes.specs.Files.{FileRead}
-use Rattle.asked_reads.specs.declared.reads.FileRead.{FileRead as Asked}
-use Rattle.asked_reads.specs.Reads.{file_read, file_reads_asked}
+use Rattle.sights.specs.AskedReads.Reads.{page_read}
+use Rattle.sights.specs.Outcomes.Files.{FileRead}
+use Rattle.sights.specs.AskedReads.declared.reads.FileRead.{FileRead as Asked}
+use Rattle.sights.specs.AskedReads.Reads.{file_read, file_reads_asked}
 use Rattle.cut_places.specs.FileChanges.{LinesChange, lines_of}
 use Rattle.cut_places.specs.FileFitting.{either_fits, fit_by_line, read_passes}
 use Rattle.cut_places.specs.FilesState.{FileState, FilesState, name_seen}

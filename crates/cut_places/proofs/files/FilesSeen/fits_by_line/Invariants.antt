@@ -1,9 +1,9 @@
 use Rattle.std.proofs.Common.{◌≡◌, true, take}
 use Rattle.std.specs.List.{list_all}
 use Rattle.nvm_model.specs.Listing.{file_of}
-use Rattle.asked_reads.specs.Reads.{page_read}
-use Rattle.asked_reads.specs.declared.reads.FileRead.{FileRead as Asked}
-use Rattle.asked_reads.specs.Reads.{file_reads_asked}
+use Rattle.sights.specs.AskedReads.Reads.{page_read}
+use Rattle.sights.specs.AskedReads.declared.reads.FileRead.{FileRead as Asked}
+use Rattle.sights.specs.AskedReads.Reads.{file_reads_asked}
 use Rattle.cut_places.specs.FileChanges.{lines_of}
 use Rattle.cut_places.specs.FileFitting.{either_fits, read_passes}
 use Rattle.cut_places.specs.FilesState.{name_seen}

@@ -1,7 +1,7 @@
 use Rattle.std.proofs.Common.{Result, Ok, Err, IfOk, ap, ◌∙◌}
 use Rattle.mappings.specs.Object.{MappingsState}
 use Rattle.script_text.specs.Action.{action_of}
-use Rattle.asked_reads.specs.Reads.{file_reads_asked}
+use Rattle.sights.specs.AskedReads.Reads.{file_reads_asked}
 use Rattle.cut_places.specs.FileCommands.{files_change}
 use Rattle.cut_places.specs.FileFitting.{fit_inside}
 use Rattle.cut_places.specs.FilesState.{FilesState}

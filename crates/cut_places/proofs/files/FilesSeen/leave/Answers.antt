@@ -2,7 +2,7 @@
 use Rattle.std.proofs.Common.{◌≡◌, Result, Ok, Err, IfOk, Option, ap, option_map, rules, ◌∙◌}
 use Rattle.std.specs.Option.{option_copied}
 use Rattle.script_text.specs.Action.{action_of}
-use Rattle.asked_reads.specs.Reads.{file_reads_asked}
+use Rattle.sights.specs.AskedReads.Reads.{file_reads_asked}
 use Rattle.cut_places.specs.FileChanges.{FilesChange}
 use Rattle.cut_places.specs.FileCommands.{files_change}
 use Rattle.cut_places.specs.FileFitting.{fit_now}

@@ -1,5 +1,4 @@
-use Rattle.std.proofs.Common.{ap, ◌∙◌, map, refl, rules}
-use Rattle.std.specs.Prelude.{Some}
+use Rattle.std.proofs.Common.{Ok, ap, ◌∙◌, map, refl, rules}
 use Rattle.asked_reads.specs.Looking.{read_action}
 use Rattle.exploration.specs.Steps.{look_line_of}
 use Rattle.exploration.proofs.LookLemmas.{held-asks}
@@ -8,5 +7,5 @@ use Rattle.exploration.proofs.look.Look.take.Goals as goal
 pub returns-in_ok-map_err-in-Asks : goal.returns-in_ok-map_err-in-Asks
 returns-in_ok-map_err-in-Asks c = λ look is.
     let finds = c.in_ok-question-in-Asks.ensures in
-    held-asks look c.args.self.now _ _ _ _ c.in_ok-question-in-Asks.question _ is (c.in_ok-read_look_line.ensures ∙ ap (λ l. Some (look_line_of l)) c.in-Asks.is)
+    held-asks c.args.geometry look c.args.self.now _ _ _ _ c.in_ok-question-in-Asks.question _ is (c.in_ok-read_look_line.ensures ∙ ap (λ l. Ok (look_line_of l)) c.in-Asks.is)
     (ap (map read_action) c.as_slice.ensures.value) (rw c.as_slice-in-Asks.ensures at finds) c.push.ensures.items (search rules) refl refl refl

@@ -1,7 +1,7 @@
 use Rattle.std.proofs.Common.{◌≡◌, Some, subst, sym}
 use Rattle.script_text.specs.Action.{action_of}
-use Rattle.machine_host.specs.Commands.{early_refusal}
-use Rattle.machine_host.specs.Lines.{bad_metadata}
+use Rattle.machine_model.specs.Commands.{early_refusal}
+use Rattle.machine_model.specs.Lines.{bad_metadata}
 use Rattle.machine_host.specs.Stands.{HostState}
 use Rattle.reply_text.specs.Answer.{answer_of}
 use Rattle.machine_host.proofs.StepLemmas.{comes_of_refusal}

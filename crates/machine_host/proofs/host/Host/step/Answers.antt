@@ -1,12 +1,12 @@
 use Rattle.std.proofs.Common.{◌≡◌, Some, arith, subst, sym}
 use Rattle.std.proofs.lemmas.Result.{IfOk-weaker}
 use Rattle.script_text.specs.Action.{action_of}
-use Rattle.machine_host.specs.Commands.{early_refusal, meaning}
-use Rattle.machine_host.specs.Lines.{bad_metadata}
+use Rattle.machine_model.specs.Commands.{early_refusal, meaning}
+use Rattle.machine_model.specs.Lines.{bad_metadata}
 use Rattle.machine_host.specs.Stands.{HostState}
 use Rattle.reply_text.specs.Answer.{answer_of}
 use Rattle.machine_host.proofs.StepLemmas.{comes_of_refusal, leaves_all, on_err, on_err-with}
-use Rattle.machine_host.proofs.RefusalLemmas.{early_plain}
+use Rattle.machine_model.proofs.RefusalLemmas.{early_plain}
 use Rattle.machine_host.proofs.WantingLemmas.{no_error, wanted}
 use Rattle.machine_host.proofs.host.Host.step.Goals as goal
 

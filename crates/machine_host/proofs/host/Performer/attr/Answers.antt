@@ -1,6 +1,6 @@
 use Rattle.std.proofs.Common.{ap, sym, ◌∙◌}
 use Rattle.attributes.specs.Attributes.{attribute}
-use Rattle.machine_host.specs.OnAttributes.{told_value}
+use Rattle.machine_model.specs.OnAttributes.{told_value}
 use Rattle.machine_host.proofs.AttributeLemmas.{attr_answered}
 use Rattle.machine_host.proofs.host.Performer.attr.Goals as goal
 

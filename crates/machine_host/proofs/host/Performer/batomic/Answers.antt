@@ -5,7 +5,7 @@ use Rattle.block_device.specs.Refusals as blocks
 use Rattle.nvm_model.specs.Blocks.{first_there}
 use Rattle.script_text.specs.Action.Action.{BAtomic}
 use Rattle.machine_host.proofs.BlockLemmas.{called, change_answered}
-use Rattle.machine_host.proofs.RefusalLemmas.{first_assoc}
+use Rattle.machine_model.proofs.RefusalLemmas.{first_assoc}
 use Rattle.machine_host.proofs.host.Performer.batomic.Goals as goal
 
 pub returns : goal.returns

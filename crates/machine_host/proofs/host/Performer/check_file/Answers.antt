@@ -1,8 +1,8 @@
 use Rattle.std.proofs.Common.{◌≡◌, Some, None, ap, refl, sym, ◌∙◌, arith}
 use Rattle.inode_table.specs.Slots.{inode_of}
 use Rattle.file_journal.specs.Object.{JournalState}
-use Rattle.scrub.specs.Spans.{lines_says}
-use Rattle.scrub.specs.Spans.SpanRefusal.{Range, Length}
+use Rattle.marked_lines.specs.Spans.{lines_says}
+use Rattle.marked_lines.specs.Spans.SpanRefusal.{Range, Length}
 use Rattle.script_text.specs.Action.Action.{CheckFile}
 use Rattle.machine_host.specs.Stands.{HostState}
 use Rattle.machine_host.proofs.FileCheckLemmas.{check_done, check_refused}

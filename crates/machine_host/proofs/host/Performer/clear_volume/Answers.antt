@@ -1,13 +1,14 @@
 use Rattle.std.proofs.Common.{◌≡◌, ◌/◌, option_map, ap, refl, subst, sym, ◌∙◌, arith}
 use Rattle.nvm_model.specs.Cell.{clear_cell}
 use Rattle.nvm_model.specs.Page.{change_line}
-use Rattle.scrub.specs.Refusals.{clear_refusal, scrub_says}
+use Rattle.marked_lines.specs.Refusals.{clear_refusal}
+use Rattle.scrub.specs.Refusals.{scrub_says}
 use Rattle.script_text.specs.Action.Action.{ClearVolume}
 use Rattle.reply_text.specs.Answer.Answer.{Done}
-use Rattle.machine_host.specs.Machine.Fate.{Works}
-use Rattle.machine_host.specs.Commands.{fate, unless_refused}
+use Rattle.machine_model.specs.Machine.Fate.{Works}
+use Rattle.machine_model.specs.Commands.{fate, unless_refused}
 use Rattle.machine_host.specs.Faults.{mode_after}
-use Rattle.machine_host.specs.OnMedia.{line_answer}
+use Rattle.machine_model.specs.OnMedia.{line_answer}
 use Rattle.machine_host.specs.Stands.{HostState, HostServes}
 use Rattle.machine_host.proofs.CallLemmas.{on_refused-then}
 use Rattle.machine_host.proofs.LineLemmas.{clear_called, fate_clear, scrub_part}

@@ -2,8 +2,8 @@ use Rattle.std.proofs.Common.{refl, ◌≡◌, ap, ◌∙◌, arith}
 use Rattle.file_journal.specs.Object.{JournalState}
 use Rattle.nvm_model.specs.Files.{new_file}
 use Rattle.nvm_model.specs.Listing.{file_name, put_file}
-use Rattle.machine_host.specs.Meaning.{no_reasons}
-use Rattle.machine_host.specs.OnFiles.{if_exists, if_many_files, if_many_pages}
+use Rattle.machine_model.specs.Meaning.{no_reasons}
+use Rattle.machine_model.specs.OnFiles.{if_exists, if_many_files, if_many_pages}
 use Rattle.machine_host.specs.Stands.{HostState}
 use Rattle.script_text.specs.Action.Action.{Create}
 use Rattle.machine_host.proofs.FilesCallLemmas.{change_answered, files_called, sees_files}

@@ -1,12 +1,12 @@
 use Rattle.std.proofs.Common.{ap, refl, subst, sym, ◌∙◌, arith}
 use Rattle.script_text.specs.Action.Action.{Cut}
 use Rattle.reply_text.specs.Answer.Answer.{Done}
-use Rattle.machine_host.specs.declared.mode.Mode.TheVariants.{Off}
+use Rattle.machine_model.specs.declared.mode.Mode.TheVariants.{Off}
 use Rattle.machine_host.specs.Responding.{Answered}
 use Rattle.machine_host.specs.Stands.{HostState, HostServes}
 use Rattle.machine_host.proofs.ElsewhereLemmas.{serves_ordered}
 use Rattle.machine_host.proofs.StepLemmas.{comes_of_cut, comes_placed}
-use Rattle.machine_host.proofs.RefusalLemmas.{power_allows}
+use Rattle.machine_model.proofs.RefusalLemmas.{power_allows}
 use Rattle.machine_host.proofs.host.Performer.cut.Goals as goal
 
 pub returns : goal.returns

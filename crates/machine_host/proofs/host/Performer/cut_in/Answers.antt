@@ -1,7 +1,7 @@
 use Rattle.std.proofs.Common.{ap, refl, ◌∙◌, arith}
 use Rattle.machine_host.proofs.ElsewhereLemmas.{serves_ordered}
 use Rattle.machine_host.proofs.StepLemmas.{comes_of_cut_in, comes_placed}
-use Rattle.machine_host.proofs.RefusalLemmas.{always_allowed, calls_right}
+use Rattle.machine_model.proofs.RefusalLemmas.{always_allowed, calls_right}
 use Rattle.script_text.specs.Action.Action.{CutIn}
 use Rattle.reply_text.specs.Answer.Answer.{Done}
 use Rattle.machine_host.proofs.host.Performer.cut_in.Goals as goal

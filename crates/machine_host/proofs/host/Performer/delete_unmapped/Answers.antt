@@ -3,8 +3,8 @@ use Rattle.file_journal.specs.Object.{JournalState}
 use Rattle.nvm_model.specs.Listing.{file_name, without_file}
 use Rattle.nvm_model.specs.Mappings.{is_mapped}
 use Rattle.nvm_model.specs.Blocks.{first_there}
-use Rattle.machine_host.specs.Meaning.{no_reasons}
-use Rattle.machine_host.specs.OnFiles.{if_mapped, if_missing}
+use Rattle.machine_model.specs.Meaning.{no_reasons}
+use Rattle.machine_model.specs.OnFiles.{if_mapped, if_missing}
 use Rattle.machine_host.specs.Stands.{HostState}
 use Rattle.script_text.specs.Action.Action.{Delete}
 use Rattle.machine_host.proofs.FilesCallLemmas.{change_answered, files_called, files_of_device, free_seen, sees_files}

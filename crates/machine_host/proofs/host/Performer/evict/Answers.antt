@@ -1,7 +1,7 @@
 use Rattle.std.proofs.Common.{ap, refl, ◌∙◌, arith}
 use Rattle.machine_host.proofs.ElsewhereLemmas.{serves_ordered}
 use Rattle.machine_host.proofs.StepLemmas.{comes_of_evict, comes_placed}
-use Rattle.machine_host.proofs.RefusalLemmas.{usable_on}
+use Rattle.machine_model.proofs.RefusalLemmas.{usable_on}
 use Rattle.script_text.specs.Action.Action.{Evict}
 use Rattle.reply_text.specs.Answer.Answer.{Done}
 use Rattle.machine_host.proofs.host.Performer.evict.Goals as goal

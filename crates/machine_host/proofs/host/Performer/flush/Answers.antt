@@ -2,7 +2,7 @@ use Rattle.std.proofs.Common.{◌∙◌, option_map, ap, refl, sym, arith, if◌
 use Rattle.mappings.specs.Object.{info_of}
 use Rattle.mappings.specs.declared.info.MapInfo.{MapInfo}
 use Rattle.nvm_model.specs.Mappings.{is_shared, mapping_of}
-use Rattle.machine_host.specs.OnFlushes.{flush_file, all_moved, flush_through, nothing_done, spans_refusal}
+use Rattle.machine_model.specs.OnFlushes.{flush_file, all_moved, flush_through, nothing_done, spans_refusal}
 use Rattle.machine_host.specs.Stands.{HostState}
 use Rattle.machine_host.proofs.FlushFateLemmas.{private_answered}
 use Rattle.machine_host.proofs.HandleCallLemmas.{told_none, told_of, told_reach}

@@ -1,7 +1,7 @@
 use Rattle.std.proofs.Common.{◌≡◌, ◌*◌, Some, ap, ◌∙◌}
 use Rattle.inode_table.specs.Slots.{inode_of, pages_at}
 use Rattle.file_journal.specs.Object.{JournalState}
-use Rattle.machine_host.specs.Meaning.{most_refusal}
+use Rattle.machine_model.specs.Meaning.{most_refusal}
 use Rattle.machine_host.specs.Stands.{HostState}
 use Rattle.machine_host.proofs.FilePageLemmas.{misread_answered}
 use Rattle.machine_host.proofs.host.Performer.fread_at.Goals as goal

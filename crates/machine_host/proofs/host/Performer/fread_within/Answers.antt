@@ -11,7 +11,7 @@ use Rattle.reply_text.specs.Answer.{IsPrintable}
 use Rattle.reply_text.specs.Answer.Answer.{Bytes}
 use Rattle.reply_text.specs.Room.{most_of}
 use Rattle.machine_host.specs.Faults.{page_fault_mode}
-use Rattle.machine_host.specs.OnPages.{page_answer}
+use Rattle.machine_model.specs.OnPages.{page_answer}
 use Rattle.machine_host.specs.Stands.{HostState}
 use Rattle.machine_host.proofs.CallLemmas.{printable_told, short_told}
 use Rattle.machine_host.proofs.FilePageLemmas.{pages_part, read_answered}

@@ -3,7 +3,7 @@ use Rattle.inode_table.specs.Slots.{inode_of}
 use Rattle.nvm_model.specs.Page.{cell_of}
 use Rattle.file_journal.specs.Object.{JournalState}
 use Rattle.file_pages.specs.Object.{IsFileAt}
-use Rattle.machine_host.specs.OnFileErrors.{is_weak_line}
+use Rattle.machine_model.specs.OnFileErrors.{is_weak_line}
 use Rattle.machine_host.specs.Stands.{HostState}
 use Rattle.machine_host.proofs.WeakMarkLemmas.{weak_found, weak_missing}
 use Rattle.machine_host.proofs.host.Performer.is_weak_in_file.Goals as goal

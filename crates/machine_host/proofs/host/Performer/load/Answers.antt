@@ -3,7 +3,7 @@ use Rattle.mappings.specs.Object.{AreMappings, info_of}
 use Rattle.nvm_model.specs.Mappings.{mapping_of}
 use Rattle.machine_host.specs.Stands.{HostState}
 use Rattle.machine_host.proofs.HandleCallLemmas.{copy_within, load_misplaced, load_missing, load_private, load_shared, told_none, told_of, told_reach}
-use Rattle.machine_host.proofs.RefusalLemmas.{read_within}
+use Rattle.machine_model.proofs.RefusalLemmas.{read_within}
 use Rattle.machine_host.proofs.host.Performer.load.Goals as goal
 
 pub returns-in_default : goal.returns-in_default

@@ -1,7 +1,7 @@
 use Rattle.std.proofs.Common.{subst, ap, ◌∙◌}
 use Rattle.word_tables.specs.declared.geometry.Geometry.{Geometry}
 use Rattle.line_device.specs.Panel.{Runs}
-use Rattle.machine_host.specs.Costs.{mount_calls, mount_persists}
+use Rattle.machine_model.specs.Costs.{mount_calls, mount_persists}
 use Rattle.machine_host.proofs.MountLemmas.{line_zero, mount_within}
 use Rattle.machine_host.proofs.MountEffectLemmas.{Gives}
 use Rattle.machine_host.proofs.SettlingLemmas.{never_failed, never_lost, never_stopped, settled_taken, stops}

@@ -4,7 +4,7 @@ use Rattle.nvm_model.specs.Storage.{Event}
 use Rattle.error_events.specs.Events.{event_of}
 use Rattle.reply_text.specs.Answer.{answer_of}
 use Rattle.script_text.specs.Action.Action.{NextEvent}
-use Rattle.machine_host.specs.OnEvents.{told_event}
+use Rattle.machine_model.specs.OnEvents.{told_event}
 use Rattle.machine_host.specs.Responding.{Answered}
 use Rattle.machine_host.specs.Stands.{HostServes, HostState}
 use Rattle.machine_host.proofs.NextEventLemmas.{first_told, next_answered, spare_kept}

@@ -4,8 +4,8 @@ use Rattle.nvm_model.specs.Blocks.{first_there}
 use Rattle.nvm_model.specs.Files.{with_name}
 use Rattle.nvm_model.specs.Listing.{file_name, rename_file}
 use Rattle.nvm_model.specs.Mappings.{is_mapped}
-use Rattle.machine_host.specs.Meaning.{no_reasons}
-use Rattle.machine_host.specs.OnFiles.{if_exists, if_mapped, if_missing}
+use Rattle.machine_model.specs.Meaning.{no_reasons}
+use Rattle.machine_model.specs.OnFiles.{if_exists, if_mapped, if_missing}
 use Rattle.machine_host.specs.Stands.{HostState}
 use Rattle.script_text.specs.Action.Action.{Rename}
 use Rattle.machine_host.proofs.FilesCallLemmas.{change_answered, files_called, free_seen, sees_files}

@@ -4,8 +4,8 @@ use Rattle.nvm_model.specs.Files.{with_pages}
 use Rattle.nvm_model.specs.Listing.{change_file, file_name}
 use Rattle.nvm_model.specs.Mappings.{is_mapped}
 use Rattle.nvm_model.specs.Blocks.{first_there}
-use Rattle.machine_host.specs.Meaning.{no_reasons}
-use Rattle.machine_host.specs.OnFiles.{if_many_pages, if_mapped, if_missing}
+use Rattle.machine_model.specs.Meaning.{no_reasons}
+use Rattle.machine_model.specs.OnFiles.{if_many_pages, if_mapped, if_missing}
 use Rattle.machine_host.specs.Stands.{HostState}
 use Rattle.script_text.specs.Action.Action.{Resize}
 use Rattle.machine_host.proofs.FilesCallLemmas.{change_answered, files_called, files_of_device, free_seen, sees_files}

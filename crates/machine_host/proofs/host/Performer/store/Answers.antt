@@ -3,7 +3,7 @@ use Rattle.mappings.specs.Object.{info_of}
 use Rattle.nvm_model.specs.Mappings.{mapping_of}
 use Rattle.machine_host.specs.Stands.{HostState}
 use Rattle.machine_host.proofs.HandleCallLemmas.{copy_within, store_misplaced, store_missing, store_own, store_shared, told_none, told_of, told_reach}
-use Rattle.machine_host.proofs.RefusalLemmas.{span_allowed}
+use Rattle.machine_model.proofs.RefusalLemmas.{span_allowed}
 use Rattle.machine_host.proofs.host.Performer.store.Goals as goal
 
 pub returns-in_default : goal.returns-in_default

@@ -1,7 +1,7 @@
 use Rattle.std.proofs.Common.{refl, sym, arith, ◌∙◌}
 use Rattle.nvm_model.specs.Page.{discard}
 use Rattle.pm_volume.specs.Refusals.{discard_refusal, volume_says}
-use Rattle.machine_host.specs.OnVolume.{volume_answer}
+use Rattle.machine_model.specs.OnVolume.{volume_answer}
 use Rattle.machine_host.specs.Stands.{HostState}
 use Rattle.script_text.specs.Action.Action.{VDiscardIf}
 use Rattle.machine_host.proofs.VolumeCallLemmas.{volume_part, meta_seen, presence_seen, of_pages, volume_called, volume_pages, volume_sizes, work_answered}

@@ -5,7 +5,7 @@ use Rattle.reply_text.specs.Room.{most_of}
 use Rattle.nvm_model.specs.Page.{look}
 use Rattle.pm_volume.specs.Refusals.{load_refusal, volume_says}
 use Rattle.line_words.specs.Told.{Answers}
-use Rattle.machine_host.specs.OnVolume.{volume_answer}
+use Rattle.machine_model.specs.OnVolume.{volume_answer}
 use Rattle.machine_host.specs.Stands.{HostState}
 use Rattle.machine_host.specs.Faults.{volume_fault_mode}
 use Rattle.machine_host.proofs.CallLemmas.{printable_told, short_told}

@@ -1,7 +1,7 @@
 use Rattle.std.proofs.Common.{refl, sym, ap, subst, ◌∙◌}
 use Rattle.pm_volume.specs.Costs.{lines_there_at}
 use Rattle.pm_volume.specs.Refusals.{physical_offset, physical_refusal, volume_says}
-use Rattle.machine_host.specs.OnVolume.{volume_answer, persist_at}
+use Rattle.machine_model.specs.OnVolume.{volume_answer, persist_at}
 use Rattle.machine_host.specs.Stands.{HostState}
 use Rattle.script_text.specs.Action.Action.{VPSync}
 use Rattle.machine_host.proofs.VolumeCallLemmas.{volume_part, counted_seen, physical_images, physical_ok, same_volume, settled_was, volume_called, volume_pages, volume_sizes, work_answered}

@@ -2,7 +2,7 @@ use Rattle.std.proofs.Common.{length, refl, sym, ◌∙◌}
 use Rattle.nvm_model.specs.Page.{fill, put}
 use Rattle.pm_volume.specs.Costs.{store_calls, store_persists}
 use Rattle.pm_volume.specs.Refusals.{store_refusal, volume_says}
-use Rattle.machine_host.specs.OnVolume.{volume_answer}
+use Rattle.machine_model.specs.OnVolume.{volume_answer}
 use Rattle.machine_host.specs.Stands.{HostState}
 use Rattle.script_text.specs.Action.Action.{VStore}
 use Rattle.machine_host.proofs.VolumeCallLemmas.{volume_part, meta_seen, presence_seen, of_pages, counted_seen, volume_called, volume_pages, volume_sizes, work_answered}

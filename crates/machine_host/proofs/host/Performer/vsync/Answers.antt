@@ -2,7 +2,7 @@ use Rattle.std.proofs.Common.{refl, sym, ap, ◌∙◌}
 use Rattle.nvm_model.specs.Page.{persist}
 use Rattle.pm_volume.specs.Costs.{lines_there}
 use Rattle.pm_volume.specs.Refusals.{sync_refusal, volume_says}
-use Rattle.machine_host.specs.OnVolume.{volume_answer}
+use Rattle.machine_model.specs.OnVolume.{volume_answer}
 use Rattle.machine_host.specs.Stands.{HostState}
 use Rattle.script_text.specs.Action.Action.{VSync}
 use Rattle.machine_host.proofs.VolumeCallLemmas.{volume_part, counted_seen, of_pages, same_volume, settled_was, volume_called, volume_pages, volume_sizes, work_answered}

@@ -4,7 +4,7 @@ use Rattle.inode_table.specs.Slots.{inode_of}
 use Rattle.file_journal.specs.Object.{JournalState}
 use Rattle.scrub.specs.Refusals.{weaken_says}
 use Rattle.script_text.specs.Action.Action.{WeakenFile}
-use Rattle.machine_host.specs.Meaning.Starved.{WrittenBack}
+use Rattle.machine_model.specs.Meaning.Starved.{WrittenBack}
 use Rattle.machine_host.specs.Responding.{Responds}
 use Rattle.machine_host.specs.Stands.{HostState, HostServes}
 use Rattle.machine_host.specs.declared.held.HeldFiles.{HeldFiles}

@@ -2,7 +2,7 @@ use Rattle.std.proofs.Common.{◌≡◌, ◌∙◌, ◌/◌, sym, subst, arith}
 use Rattle.inode_table.specs.Slots.{pages_at}
 use Rattle.file_journal.specs.Object.{JournalState}
 use Rattle.file_journal.specs.Tables.{AreTables}
-use Rattle.scrub.proofs.FileChangedLemmas.{file_apart}
+use Rattle.marked_lines.proofs.ApartLemmas.{file_apart}
 use Rattle.scrub.proofs.FilePlaceLemmas.{file_size}
 use Rattle.machine_host.proofs.WeakMarkLemmas.{weak_nowhere, weak_past, weak_placed}
 use Rattle.machine_host.proofs.host.file_errors.is_weak_in.Goals as goal

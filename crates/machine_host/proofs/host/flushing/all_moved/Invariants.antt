@@ -1,5 +1,5 @@
 use Rattle.std.proofs.Common.{◌≡◌, length, take}
-use Rattle.machine_host.specs.OnFlushes.{all_moved}
+use Rattle.machine_model.specs.OnFlushes.{all_moved}
 use Rattle.machine_host.proofs.host.flushing.all_moved.Given as goal
 
 abbrev pub invariant-loop-k : goal.invariant-loop-k

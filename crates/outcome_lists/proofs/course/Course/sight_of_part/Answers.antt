@@ -1,6 +1,6 @@
 use Rattle.std.proofs.Common.{◌≡◌, ◌+◌, ◌-◌, [], ◌∷◌, drop, subst, sym, take}
-use Rattle.cut_places.specs.declared.sight.Sight.{Sight}
-use Rattle.value_tables.specs.Looking.{IsOf}
+use Rattle.explorer.specs.CutPlaces.declared.sight.Sight.{Sight}
+use Rattle.explorer.specs.ValueTables.Looking.{IsOf}
 use Rattle.outcome_lists.proofs.ResultLemmas.{on_found_all}
 use Rattle.outcome_lists.proofs.SightLemmas.{block_follows, one_of, sight_of_block, sight_of_word, word_follows}
 use Rattle.outcome_lists.proofs.course.Course.sight_of_part.Goals as goal

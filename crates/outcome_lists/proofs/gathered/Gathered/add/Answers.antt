@@ -1,10 +1,10 @@
 use Rattle.std.proofs.Common.{◌/◌, ◌%◌, ◌==◌, [], ◌∷◌, ap, sym, ◌∙◌}
 use Rattle.block_sights.specs.Sights.{sight}
 use Rattle.nvm_model.specs.Blocks.{nth}
-use Rattle.sights.specs.BlockTelling.{same_sight}
-use Rattle.sights.specs.Seeing.{seen}
-use Rattle.value_tables.specs.Sides.{side_at}
-use Rattle.value_tables.specs.Values.{cells_of, history_of, values_with, with_all, with_one}
+use Rattle.explorer.specs.SightsSeen.BlockTelling.{same_sight}
+use Rattle.explorer.specs.SightsSeen.Seeing.{seen}
+use Rattle.explorer.specs.ValueTables.Sides.{side_at}
+use Rattle.explorer.specs.ValueTables.Values.{cells_of, history_of, values_with, with_all, with_one}
 use Rattle.outcome_lists.specs.Choices.{sights_through, values_through}
 use Rattle.outcome_lists.proofs.PartSeenLemmas.{first_block, first_line, gone, held_of_word, no_block, no_line, numbers_of_block, numbers_of_word, side_is, there}
 use Rattle.outcome_lists.proofs.ResultLemmas.{on_ok}

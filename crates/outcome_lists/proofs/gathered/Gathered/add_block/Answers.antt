@@ -3,7 +3,7 @@ use Rattle.std.proofs.Common.{◌≡◌, ◌++◌, [], ◌∷◌, false, cond, a
 use Rattle.std.specs.List.{list_any}
 use Rattle.std.proofs.lemmas.Iterator.{YieldsList-from_slice}
 use Rattle.std.proofs.lemmas.Iterator.Search.{any_from_yields_List}
-use Rattle.sights.specs.BlockTelling.{same_sight}
+use Rattle.explorer.specs.SightsSeen.BlockTelling.{same_sight}
 use Rattle.outcome_lists.proofs.gathered.Gathered.add_block.Goals as goal
 
 pub returns-in_ok-push-clause-blocks : goal.returns-in_ok-push-clause-blocks

@@ -1,0 +1,3 @@
+pub use Rattle.outcomes.proofs.Durable
+pub use Rattle.outcomes.proofs.MachineModel
+pub use Rattle.outcomes.proofs as Outcomes

@@ -1,5 +1,0 @@
-use Rattle.block_device.proofs.PlainLemmas.{plain_ends}
-use Rattle.block_device.proofs.tests.cuts.start_fused.Goals as goal
-
-pub open-requires-clause-end : goal.open-requires-clause-end
-open-requires-clause-end c = plain_ends c.args.dev.now.inner

@@ -1,5 +1,0 @@
-use Rattle.exploration.proofs.AskLemmas.{AskedUpTo}
-use Rattle.exploration.proofs.question.question_of.Given as goal
-
-abbrev pub invariant-loop-read : goal.invariant-loop-read
-invariant-loop-read l = AskedUpTo l.reads l.replies l.question l.read-index l.left

@@ -1,0 +1,33 @@
+// The line that answers a question.
+ghost use Rattle.std.specs.Prelude.{◌≡◌, IfOk, List};
+ghost use Rattle.outcome_lists.specs.OutcomeTest.Seen.{Seen};
+ghost use Rattle.outcome_lists.specs.AskedReads.Asking.{IsLook};
+ghost use Rattle.explore_program.specs.Telling.{answer_line};
+
+use nvm_base::Bytes;
+use outcome_lists::exploring::Found;
+use outcome_lists::print_place;
+use outcome_lists::reads_asked::Question;
+use outcome_lists::witness::kept_text;
+use program_base::plain_line;
+use std::alloc::{AllocError, Global};
+
+/// Whether what was asked is never found, or where a cut leaves it first, and what it keeps then.
+pub fn answer_line(
+    alloc: Global,
+    question: &Question,
+    found: &Option<Found>,
+) -> Result<Bytes, AllocError>
+    ensures { (look : List Seen) → IsLook look question.now → IfOk result (λ line. line.items ≡ answer_line look found.now) }
+{
+    let Some(found) = found else {
+        return plain_line(alloc, b"never");
+    };
+    let mut line = Bytes::new(alloc);
+    line.extend(b"may ")?;
+    print_place(found.place, &mut line)?;
+    let kept = kept_text(alloc, question, &found.kept)?;
+    line.extend(kept.as_slice())?;
+    line.push(b'\n')?;
+    Ok(line)
+}

@@ -1,0 +1,3 @@
+pub mod Rows
+pub mod MappedRows
+pub mod FlushRows

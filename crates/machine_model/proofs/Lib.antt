@@ -1,0 +1,4 @@
+pub mod FirstLemmas
+pub mod RefusalLemmas
+pub mod RunLemmas
+pub mod UsedPageLemmas

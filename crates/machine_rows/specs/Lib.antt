@@ -1,0 +1,14 @@
+pub mod Rows
+pub mod BlockRows
+pub mod CutRows
+pub mod VolumeRows
+pub mod MediaRows
+pub mod FailureRows
+pub mod FileRows
+pub mod MappingRows
+pub mod FlushRows
+pub mod FileErrorRows
+pub mod EventRows
+pub mod AttributeRows
+pub mod PageRows
+pub mod FileActionRows

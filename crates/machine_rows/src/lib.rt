@@ -1,0 +1,10 @@
+//! Worked scripts of the machine: what it writes for each, from bytes to bytes, as laws.
+#![tactic(auto)]
+
+mod rows;
+
+pub use rows::{
+    worked_attributes, worked_cuts, worked_events, worked_failures, worked_file_actions,
+    worked_file_errors, worked_files, worked_flushes, worked_mappings, worked_pages,
+    worked_scripts,
+};

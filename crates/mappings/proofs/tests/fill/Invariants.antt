@@ -1,5 +1,0 @@
-use Rattle.file_pages.specs.Object.{PagesServe}
-use Rattle.mappings.proofs.tests.fill.Given as goal
-
-abbrev pub invariant-loop-k : goal.invariant-loop-k
-invariant-loop-k g l = PagesServe l.files (g.L.Lines.state l.dev).medium

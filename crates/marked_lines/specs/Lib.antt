@@ -1,0 +1,4 @@
+pub mod Refusals
+pub mod Counting
+pub mod Lines
+pub mod Spans

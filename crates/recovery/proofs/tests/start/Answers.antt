@@ -1,5 +1,0 @@
-use Rattle.block_device.proofs.PlainLemmas.{plain_ends}
-use Rattle.recovery.proofs.tests.start.Goals as goal
-
-pub open-requires : goal.open-requires
-open-requires c = record { end = plain_ends c.args.dev.now }
