@@ -17,6 +17,8 @@ use Rattle.line_device.specs.Panel.{KeepsPower, Panel, SetsUp, after_disarm}
 use Rattle.word_tables.specs.declared.geometry.Geometry.{Geometry}
 use Rattle.machine_model.specs.declared.mode.Mode.TheVariants as modes
 use Rattle.machine_host.specs.Machine.{Machine, bad_of}
+use Rattle.machine_host.specs.Run.{Run}
+use Rattle.script_text.specs.Script.{inputs_of, lines_of}
 use Rattle.machine_host.specs.Settling.{Settled}
 use Rattle.machine_host.specs.Stands.{HostServes, HostState, Stands}
 use Rattle.machine_host.proofs.RunLemmas.{tells_then}
@@ -37,6 +39,7 @@ use Rattle.program_base.proofs.OpenLemmas.{on_opened}
 use Rattle.host_program.proofs.RestLemmas.{rests-settled, stands-read_out}
 use Rattle.host_program.proofs.RunLemmas.{halts-unstored, is_run-opened}
 use Rattle.host_program.proofs.StoreLemmas.{last-write_back}
+use Rattle.host_program.proofs.UnarmedLemmas.{performs_unarmed}
 
 keeps-same : (held : Option Held) → KeepsHeld (λ _. ⊤) held held
 keeps-same None = tt
@@ -158,6 +161,10 @@ run_over from to host after settled opened_as ran rest held counted (Ok x) old n
         stands = stands-read_out comes.next rest new.device stands stores.wrote (subst (λ end. SetsUp end rest.panel new.device.panel) done.0 stores.sets_up)
             (subst (λ end. KeepsPower end rest.panel new.device.panel) done.0 stores.power) (sym stands.cut_armed ∙ comes.asks.cut_armed) (sym stands.fail_armed ∙ comes.asks.fail_armed);
       };
+      unarmed = λ cut fail arm.
+          let all : lines_of says.script ≡ says.lines = says.split ∙ ap (λ ls. says.lines ++ ls) says.outcome.none_left ∙ append-nil says.lines in
+          performs_unarmed ready.lines old.device.panel (inputs_of (lines_of says.script)) says.said ready.mounted.begin says.end ready.mounted.begins
+          (subst (λ ls. Run ready.mounted.begin (inputs_of ls) says.said says.end) (sym all) says.run) cut fail arm;
       wrote = subst (Appends old.written new.written) says.outcome.all says.wrote;
       stored = record {
         lines = image.lines;

@@ -8,4 +8,5 @@ mod AgainLemmas
 mod RestLemmas
 mod RunLemmas
 mod BenchLemmas
+mod UnarmedLemmas
 mod FormLemmas

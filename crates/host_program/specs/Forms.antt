@@ -1,5 +1,5 @@
 -- What each form of the words does, and how it fails.
-use Rattle.std.specs.Prelude.{◌≡◌, ◌⊎◌, ◌<◌, ◌≤◌, ◌++◌, ℕ, List, [], length, codes, decimal, Option, None, IfSome, Result, MatchResult, ⊤}
+use Rattle.std.specs.Prelude.{◌≡◌, ◌⊎◌, ◌<◌, ◌≤◌, ◌++◌, ℕ, false, List, [], length, codes, decimal, Option, None, IfSome, Result, MatchResult, ⊤}
 use Rattle.std.specs.Io.KnownBytes.{Appends, Consumes, IsAtEnd}
 use Rattle.nvm_base.specs.Counts.{Rose, raised}
 use Rattle.command_line.specs.Words.{Form}
@@ -9,13 +9,15 @@ use Rattle.host_io.specs.declared.images.ImageCounts.{ImageCounts}
 use Rattle.image_file.specs.Devices.{medium_of}
 use Rattle.image_file.specs.Text.{fresh_snapshot}
 use Rattle.line_device.specs.declared.line.LineState.{LineState}
+use Rattle.machine_model.specs.Performing.{perform}
+use Rattle.machine_model.specs.Unarmed.{ArmNothing}
 use Rattle.machine_host.specs.Costs.{Opens}
 use Rattle.machine_host.specs.Machine.{Machine, bad_of}
 use Rattle.machine_host.specs.Run.{Transcript, followed_by}
 use Rattle.machine_host.specs.Telling.{Tells}
 use Rattle.recovery.specs.Findings.{first_finding}
 use Rattle.reply_text.specs.Answer.{reply_text}
-use Rattle.script_text.specs.Script.{lines_of}
+use Rattle.script_text.specs.Script.{inputs_of, lines_of}
 use Rattle.word_tables.specs.Layout.{total_lines}
 use Rattle.word_tables.specs.declared.geometry.Geometry.{Geometry}
 use Rattle.host_program.specs.Bench.{Benches, BreaksOff, FailsToStart}
@@ -76,6 +78,9 @@ pub record Completes (from to : List ℕ) (old new : World) : Type 0 where
   pub ended : IsAtEnd new.left
   pub short : length script < 1073741824
   pub ran : Ran (opened lines) (lines_of script) said last old.device new.device
+  -- where nothing is armed, neither before nor by a line, it went as the machine alone performs it, given what each restart left
+  pub unarmed : old.device.panel.cut_armed ≡ false → old.device.panel.fail_armed ≡ false → ArmNothing (inputs_of (lines_of script))
+      → perform (opened lines) (inputs_of (lines_of script)) said.starts ≡ record { said = said; state = ran.end }
   pub wrote : Appends old.written new.written (reply_text said.answers)
   pub stored : IsStored to old.held new.held new.device.medium last
   pub fetches : new.images.fetches ≡ raised old.images.fetches

@@ -55,7 +55,7 @@ pub run_of_one : (h next : Machine) (input : Input) (said : Transcript) → Hear
 run_of_one h next input said hears = (said, silence, next, sym (followed_by-nil said), hears, (refl, refl))
 
 -- what follows a restart, and what is asked of what it left
-abbrev gone_on : Machine → Action → List Input → List Start → Performance
+abbrev pub gone_on : Machine → Action → List Input → List Start → Performance
 gone_on h action inputs starts = elim starts [
   | [] ↦ record { said = silence; state = h }
   | start ∷ others ↦ after (with_start (spending h action) start (mounted_answer (restarted h start.image))) (perform (restarted h start.image) inputs others)
@@ -68,7 +68,7 @@ allows_on h inputs choice starts = elim starts as (λ _. Type 0) [
 ]
 
 -- what follows a command
-abbrev performed : Machine → Action → Fate → List Input → List Start → Performance
+abbrev pub performed : Machine → Action → Fate → List Input → List Start → Performance
 performed h action f inputs starts = elim f [
   | Gives answer next ↦ after (answered answer) (perform next inputs starts)
   | Works answer next ↦ after (worked (spending h action) answer) (perform next inputs starts)

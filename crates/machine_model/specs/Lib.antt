@@ -19,6 +19,7 @@ pub mod Interrupted
 pub mod Restarting
 pub mod Recovering
 pub mod Run
+pub mod Unarmed
 pub mod Performing
 pub mod Telling
 pub mod Settling
