@@ -3,6 +3,7 @@ pub mod Reads
 pub mod Fitting
 pub mod Telling
 pub mod Lines
+pub mod Program
 pub mod Exploration
 pub mod Reading
 pub mod Steps

@@ -19,6 +19,7 @@ reason_text why.NotInALook = codes "not-in-a-look"
 reason_text why.BeforeTheLook = codes "before-the-look"
 reason_text why.ReadAfterAQuestion = codes "read-after-a-question"
 reason_text why.Again = codes "again"
+reason_text why.NoCommand = codes "no-command"
 reason_text (why.Reply k) = numbered_text k []
 reason_text (why.Replies given reads) = replies_text given reads
 reason_text (why.Kind k) = numbered_text k (codes " kind")
