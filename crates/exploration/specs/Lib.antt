@@ -5,6 +5,8 @@ pub mod Telling
 pub mod Lines
 pub mod Program
 pub mod Exploration
+pub mod Performing
 pub mod Reading
 pub mod Steps
 pub mod Rows
+pub mod MarkRows

@@ -5,7 +5,7 @@ use Rattle.script_text.specs.Script.{Input, line_input}
 use Rattle.script_text.specs.Script.Input.{Skipped, Malformed, Overlong, Asked}
 use Rattle.reply_text.specs.Answer.{Answer}
 use Rattle.questions.specs.Question.{QuestionLine, question_line}
-use Rattle.questions.specs.Question.QuestionLine as question
+use Rattle.questions.specs.Question.QuestionLine.{Plain, Begins as AsksBegin, Refuses as AsksRefusal, Look as AsksLook, Lists as AsksList, Tabulates, Never, May, Misspelled, NoReply}
 use Rattle.outcomes.specs.Stops.{is_of_program}
 use Rattle.exploration.specs.Reads.{read_of}
 use Rattle.exploration.specs.declared.asking.Wanted.{Wanted}
@@ -39,16 +39,16 @@ program_input (Asked action) = if is_of_program action then Ok (Does (Some actio
 
 -- what any line is in the program
 abbrev pub program_kind : QuestionLine → Input → Result ProgramLine Reason
-program_kind question.Plain input = program_input input
-program_kind question.Begins input = Ok Begins
-program_kind question.Refuses input = Ok Refuses
-program_kind question.Look input = Ok Ends
-program_kind question.Lists input = Err why.BeforeTheLook
-program_kind question.Tabulates input = Err why.BeforeTheLook
-program_kind (question.Never replies) input = Err why.BeforeTheLook
-program_kind (question.May replies) input = Err why.BeforeTheLook
-program_kind question.Misspelled input = Err why.Spelling
-program_kind (question.NoReply k) input = Err why.BeforeTheLook
+program_kind Plain input = program_input input
+program_kind AsksBegin input = Ok Begins
+program_kind AsksRefusal input = Ok Refuses
+program_kind AsksLook input = Ok Ends
+program_kind AsksList input = Err why.BeforeTheLook
+program_kind Tabulates input = Err why.BeforeTheLook
+program_kind (Never replies) input = Err why.BeforeTheLook
+program_kind (May replies) input = Err why.BeforeTheLook
+program_kind Misspelled input = Err why.Spelling
+program_kind (NoReply k) input = Err why.BeforeTheLook
 
 abbrev pub program_line : List ℕ → Result ProgramLine Reason
 program_line line = program_kind (question_line line) (line_input line)
@@ -62,16 +62,16 @@ look_input (Asked action) = if is_some (read_of action) then Ok (Reads action) e
 
 -- what any line is in the look
 abbrev pub look_kind : QuestionLine → Input → Result LookLine Reason
-look_kind question.Plain input = look_input input
-look_kind question.Begins input = Err why.NotInALook
-look_kind question.Refuses input = Err why.NotInALook
-look_kind question.Look input = Err why.Again
-look_kind question.Lists input = Ok Lists
-look_kind question.Tabulates input = Ok Tables
-look_kind (question.Never replies) input = Ok (Asks wanted.Never replies)
-look_kind (question.May replies) input = Ok (Asks wanted.May replies)
-look_kind question.Misspelled input = Err why.Spelling
-look_kind (question.NoReply k) input = Err (why.Reply k)
+look_kind Plain input = look_input input
+look_kind AsksBegin input = Err why.NotInALook
+look_kind AsksRefusal input = Err why.NotInALook
+look_kind AsksLook input = Err why.Again
+look_kind AsksList input = Ok Lists
+look_kind Tabulates input = Ok Tables
+look_kind (Never replies) input = Ok (Asks wanted.Never replies)
+look_kind (May replies) input = Ok (Asks wanted.May replies)
+look_kind Misspelled input = Err why.Spelling
+look_kind (NoReply k) input = Err (why.Reply k)
 
 abbrev pub look_line : List ℕ → Result LookLine Reason
 look_line line = look_kind (question_line line) (line_input line)

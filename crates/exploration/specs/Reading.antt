@@ -1,11 +1,8 @@
 -- What reading an exploration may give.
-use Rattle.std.specs.Prelude.{◌≡◌, All, List, Option, [], ◌∷◌, map, option_map, Result, Ok, Err}
-use Rattle.script_text.specs.declared.command.Command.{Command}
+use Rattle.std.specs.Prelude.{◌≡◌, List, [], ◌∷◌, map, option_map, Result, Ok, Err}
 use Rattle.script_text.specs.Action.{action_of}
-use Rattle.outcomes.specs.Stops.{IsProgram}
 use Rattle.asked_reads.specs.Asking.{IsLook}
 use Rattle.asked_reads.specs.Looking.{read_action}
-use Rattle.asked_reads.specs.Program.{IsBounded, inputs_of_lines}
 use Rattle.exploration.specs.declared.asking.Asking.{Asking}
 use Rattle.exploration.specs.declared.exploration.Exploration.{Exploration}
 use Rattle.exploration.specs.declared.exploration.ScriptFault.{ScriptFault}
@@ -38,11 +35,6 @@ pub record IsExplored (e : Explored) (held : Exploration) : Type 0 where
 abbrev pub Holds : Script → Exploration → Type 0
 Holds (Taken e) exploration = IsExplored e exploration
 Holds (StopsAt n why) exploration = ⊥
-
--- commands of a program, their numbers within bounds
-pub record AreCommands (lines : List (Option Command)) : Type 0 where
-  pub program : IsProgram (inputs_of_lines lines)
-  pub bounds : All IsBounded lines
 
 -- what came of a script's text
 abbrev pub ReadsScript : Script → Result Exploration ScriptFault → Type 0

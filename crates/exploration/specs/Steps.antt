@@ -1,9 +1,11 @@
 -- What the steps of reading a script may give.
-use Rattle.std.specs.Prelude.{◌≡◌, ℕ, Bool, true, false, List, [], ◌∷◌, ◌++◌, map, option_map, IsOkAnd, IsSomeAnd, Option, Some, None, Result, Ok, Err}
+use Rattle.std.specs.Prelude.{◌≡◌, All, ℕ, Bool, true, false, List, [], ◌∷◌, ◌++◌, map, option_map, IsOkAnd, IsSomeAnd, Option, Some, None, Result, Ok, Err}
+use Rattle.script_text.specs.declared.command.Command.{Command}
 use Rattle.script_text.specs.Action.{action_of}
 use Rattle.script_text.specs.Script.{lines_of}
 use Rattle.questions.specs.Asked.{answer_asked}
 use Rattle.outcomes.specs.Seen.{Seen}
+use Rattle.outcomes.specs.Stops.{IsProgram}
 use Rattle.asked_reads.specs.declared.question.Question.{Question}
 use Rattle.asked_reads.specs.Asking.{IsLook}
 use Rattle.exploration.specs.declared.exploration.ScriptFault.{ScriptFault}
@@ -27,8 +29,9 @@ use Rattle.exploration.specs.Program.{Parts, Untaken as Stopped, first_of, marks
 use Rattle.exploration.specs.Lines.{LookLine, ProgramLine}
 use Rattle.exploration.specs.Lines.LookLine.{Asks, Lists, Passes, Reads, Tables}
 use Rattle.exploration.specs.Lines.ProgramLine.{Begins, Does, Ends, Refuses}
-use Rattle.exploration.specs.Reading.{AreCommands, AskOf, IsAsking}
+use Rattle.exploration.specs.Reading.{AskOf, IsAsking}
 use Rattle.asked_reads.specs.Looking.{read_action}
+use Rattle.asked_reads.specs.Program.{IsBounded, inputs_of_lines}
 
 -- the fault of a script that stops at a line of that number
 abbrev pub fault_at : ℕ → LineStop → ScriptFault
@@ -65,6 +68,11 @@ abbrev pub FindsReply : {A T : Type 0} → (T → A) → Option A → Result T R
 FindsReply of there (Ok x) = there ≡ Some (of x)
 FindsReply of there (Err reply.Kind) = there ≡ None
 FindsReply of there (Err reply.Memory) = Unit {0}
+
+-- commands of a program, their numbers within bounds
+pub record AreCommands (lines : List (Option Command)) : Type 0 where
+  pub program : IsProgram (inputs_of_lines lines)
+  pub bounds : All IsBounded lines
 
 -- its command is one of a program, its numbers within bounds
 abbrev pub IsRightLine : ProgramLineRead → Type 0
@@ -125,18 +133,18 @@ pub record IsProgramHeld (lines : List ProgramLine) (held : ProgramHeld) : Type 
   pub first_right : AreCommands held.first.items
   pub right : AreCommands held.lines.items
 
--- what came of one line more, which is none of the look
-abbrev pub AddsLine : List ProgramLine → Result ProgramLine Reason → ProgramHeld → Result (Unit {0}) LineStop → Type 0
-AddsLine before next new (Ok u) = IsOkAnd next (λ line. IsProgramHeld (before ++ line ∷ []) new)
-AddsLine before next new (Err (Untaken why)) = next ≡ Err why
-AddsLine before next new (Err Memory) = Unit {0}
-
 -- it goes on from this line
 abbrev pub GoesOn : List ProgramLine → ProgramHeld → ProgramLine → Type 0
 GoesOn before new (Does item) = IsProgramHeld (before ++ Does item ∷ []) new
 GoesOn before new Begins = IsProgramHeld (before ++ Begins ∷ []) new
 GoesOn before new Refuses = IsProgramHeld (before ++ Refuses ∷ []) new
 GoesOn before new Ends = ⊥
+
+-- what came of one line more, which is not the end of the program
+abbrev pub AddsLine : List ProgramLine → Result ProgramLine Reason → ProgramHeld → Result (Unit {0}) LineStop → Type 0
+AddsLine before next new (Ok u) = IsOkAnd next (GoesOn before new)
+AddsLine before next new (Err (Untaken why)) = next ≡ Err why
+AddsLine before next new (Err Memory) = Unit {0}
 
 -- what came of one line more, and whether it is one of the program
 abbrev pub TakesProgramLine : List ProgramLine → Result ProgramLine Reason → ProgramHeld → Result Bool LineStop → Type 0

@@ -1,7 +1,9 @@
-ghost use Rattle.std.specs.Prelude.{◌≡◌, ◌<◌, ◌≤◌, ◌^◌, IfOk, length};
+ghost use Rattle.std.specs.Prelude.{◌≡◌, ◌<◌, ◌≤◌, ◌^◌, All, IfOk, length};
 ghost use Rattle.word_tables.specs.Bounds.{IsValid};
 ghost use Rattle.exploration.specs.Exploration.{script_of};
-ghost use Rattle.exploration.specs.Reading.{AreCommands, ReadsScript};
+ghost use Rattle.outcomes.specs.Stops.{IsProgram};
+ghost use Rattle.asked_reads.specs.Program.{IsBounded, inputs_of_lines};
+ghost use Rattle.exploration.specs.Reading.{ReadsScript};
 
 use crate::asking::Asking;
 use crate::look::{Look, read_look};
@@ -59,8 +61,10 @@ pub fn read_script(
     requires valid { IsValid geometry }
     requires few { length script.now < 2 ^ 32 }
     ensures script { ReadsScript (script_of geometry script.now) result }
-    ensures first { IfOk result (λ e. AreCommands e.first.items) }
-    ensures program { IfOk result (λ e. AreCommands e.program.items) }
+    ensures first { IfOk result (λ e. IsProgram (inputs_of_lines e.first.items)) }
+    ensures first_bounds { IfOk result (λ e. All IsBounded e.first.items) }
+    ensures program { IfOk result (λ e. IsProgram (inputs_of_lines e.program.items)) }
+    ensures bounds { IfOk result (λ e. All IsBounded e.program.items) }
     ensures first_len { IfOk result (λ e. length e.first.items ≤ length e.program.items) }
     ensures refused_len { IfOk result (λ e. length e.refused.items ≡ length e.program.items) }
 {

@@ -5,8 +5,7 @@ ghost use Rattle.script_text.specs.Script.{lines_of};
 ghost use Rattle.exploration.specs.Lines.{ProgramLine as LineOfProgram, program_line};
 ghost use Rattle.exploration.specs.Lines.ProgramLine.{Begins, Does, Refuses};
 ghost use Rattle.exploration.specs.Program.{placed, placed_line};
-ghost use Rattle.exploration.specs.Reading.{AreCommands};
-ghost use Rattle.exploration.specs.Steps.{AddsLine, IsProgramHeld, TakesProgramLine};
+ghost use Rattle.exploration.specs.Steps.{AddsLine, AreCommands, IsProgramHeld, TakesProgramLine};
 
 use crate::ahead::has_command;
 use crate::program_lines::{ProgramLine, read_program_line};
@@ -77,8 +76,7 @@ impl Program {
 
     // Cuts are asked about from the next line on.
     fn begin(&mut self, alloc: Global) -> Result<(), LineStop>
-        ensures { (before : List LineOfProgram) (later : List (List ℕ)) → IsProgramHeld before self.old
-            → AddsLine before (placed before later Begins) self.new result }
+        ensures { (before : List LineOfProgram) → IsProgramHeld before self.old → AddsLine before (placed before [] Begins) self.new result }
     {
         if !self.first.is_empty() {
             return Err(LineStop::Untaken(Reason::Again));

@@ -1,5 +1,6 @@
 // The question that replies ask of reads.
-ghost use Rattle.std.specs.Prelude.{◌≡◌, List, [], map, option_map};
+ghost use Rattle.std.specs.Prelude.{◌≡◌, List, [], is_some, map, option_map};
+ghost use Rattle.std.specs.List.{list_any};
 ghost use Rattle.word_tables.specs.Bounds.{IsValid};
 ghost use Rattle.questions.specs.Asked.{answer_asked};
 ghost use Rattle.outcomes.specs.Seen.{Seen};
@@ -49,8 +50,14 @@ fn asks_nothing(wanted: Wanted, replies: &[Option<AskedReply>]) -> bool
 {
     match wanted {
         Wanted::Never => false,
-        Wanted::May => !replies.iter().any(|reply| reply.is_some()),
+        Wanted::May => !has_reply(replies),
     }
+}
+
+fn has_reply(replies: &[Option<AskedReply>]) -> bool
+    ensures { result ≡ list_any is_some replies.now }
+{
+    replies.iter().any(|reply| reply.is_some())
 }
 
 // Each read needs a reply, or None for any.
