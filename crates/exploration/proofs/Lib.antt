@@ -9,4 +9,4 @@ pub mod ReadLemmas
 pub mod AskLemmas
 pub mod FitLemmas
 pub mod SeenLemmas
-pub mod TellLemmas
+pub mod ReasonTextLemmas

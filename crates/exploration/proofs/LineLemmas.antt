@@ -3,7 +3,7 @@ use Rattle.std.proofs.Common.{◌≡◌, ◌==◌, ◌&&◌, ◌||◌, Bool, tru
 use Rattle.std.specs.Prelude.{suc, is_some}
 use Rattle.exploration.specs.Lines.{ProgramLine}
 use Rattle.exploration.specs.Lines.ProgramLine.{Begins}
-use Rattle.exploration.specs.Program.{action_in, first_of, has_begin, is_begin, marks_behind, marks_from, program_of, refused_from}
+use Rattle.exploration.specs.Program.{action_in, first_of, has_begin, is_begin, marks_after, marks_from, program_of, refused_from}
 
 or_true : (b : Bool) → (b || true) ≡ true
 or_true true = refl
@@ -52,11 +52,11 @@ program-begun (l ∷ ls) =
 pub refused-more : (marks : Bool) (lines : List ProgramLine) (line : ProgramLine)
     → refused_from marks (lines ++ line ∷ []) ≡ refused_from marks lines ++ (marks_from marks lines && is_some (action_in line)) ∷ []
 refused-more marks [] line = refl
-refused-more marks (l ∷ ls) line = ap (λ rest. (marks && is_some (action_in l)) ∷ rest) (refused-more (marks_behind marks l) ls line)
+refused-more marks (l ∷ ls) line = ap (λ rest. (marks && is_some (action_in l)) ∷ rest) (refused-more (marks_after marks l) ls line)
 
-pub marks-more : (marks : Bool) (lines : List ProgramLine) (line : ProgramLine) → marks_from marks (lines ++ line ∷ []) ≡ marks_behind (marks_from marks lines) line
+pub marks-more : (marks : Bool) (lines : List ProgramLine) (line : ProgramLine) → marks_from marks (lines ++ line ∷ []) ≡ marks_after (marks_from marks lines) line
 marks-more marks [] line = refl
-marks-more marks (l ∷ ls) line = marks-more (marks_behind marks l) ls line
+marks-more marks (l ∷ ls) line = marks-more (marks_after marks l) ls line
 
 -- one item a line
 pub program-length : (lines : List ProgramLine) → length (program_of lines) ≡ length lines
@@ -65,7 +65,7 @@ program-length (l ∷ ls) = ap suc (program-length ls)
 
 pub refused-length : (marks : Bool) (lines : List ProgramLine) → length (refused_from marks lines) ≡ length lines
 refused-length marks [] = refl
-refused-length marks (l ∷ ls) = ap suc (refused-length (marks_behind marks l) ls)
+refused-length marks (l ∷ ls) = ap suc (refused-length (marks_after marks l) ls)
 
 -- there are first ones where there is a `# begin`
 pub first-some : (lines : List ProgramLine) → (length (first_of lines) == 0) ≡ not (has_begin lines)

@@ -118,7 +118,7 @@ kind-goes (May replies) input line skipped is on = absurd (cc)
 kind-goes Misspelled input line skipped is on = absurd (cc)
 kind-goes (NoReply k) input line skipped is on = absurd (cc)
 
--- a program that is read behind some of its lines
+-- a program that is read on from some of its lines
 pub record ReadsTo (old : List ProgramLine) (lines : List (List ℕ)) (parts : Parts) : Type 0 where
   pub more : List ProgramLine
   pub before : List (List ℕ)
@@ -149,18 +149,18 @@ look_or none (Ok parts) = parts.look
 
 by-line : (old : List ProgramLine) (line : List ℕ) (lines : List (List ℕ)) (parts : Parts) → ((more : List ProgramLine) → parts_from more lines ≡ Ok parts → ReadsTo more lines parts)
     → (r : Result ProgramLine Reason) → placed_line old lines (program_line line) ≡ r → go_on (length old + 1) (part_by old lines (λ more. parts_from more lines)) r ≡ Ok parts → ReadsTo old (line ∷ lines) parts
-by-line old line lines parts others (Err why) told is = absurd (cc)
-by-line old line lines parts others (Ok (Does item)) told is = one-line old line lines parts (Does item) (placed-is old lines (program_line line) (Does item) told) refl (others (old ++ Does item ∷ []) is)
-by-line old line lines parts others (Ok Begins) told is = one-line old line lines parts Begins (placed-is old lines (program_line line) Begins told) refl (others (old ++ Begins ∷ []) is)
-by-line old line lines parts others (Ok Refuses) told is = one-line old line lines parts Refuses (placed-is old lines (program_line line) Refuses told) refl (others (old ++ Refuses ∷ []) is)
-by-line old line lines parts others (Ok Ends) told is =
+by-line old line lines parts others (Err why) found is = absurd (cc)
+by-line old line lines parts others (Ok (Does item)) found is = one-line old line lines parts (Does item) (placed-is old lines (program_line line) (Does item) found) refl (others (old ++ Does item ∷ []) is)
+by-line old line lines parts others (Ok Begins) found is = one-line old line lines parts Begins (placed-is old lines (program_line line) Begins found) refl (others (old ++ Begins ∷ []) is)
+by-line old line lines parts others (Ok Refuses) found is = one-line old line lines parts Refuses (placed-is old lines (program_line line) Refuses found) refl (others (old ++ Refuses ∷ []) is)
+by-line old line lines parts others (Ok Ends) found is =
     let all : old ≡ parts.lines = ap (λ (r : Result Parts Untaken). lines_or old r) is in
     let left : lines ≡ parts.look = ap (λ (r : Result Parts Untaken). look_or lines r) is in
     record {
       more = [];
       before = [];
       look = line;
-      cut = record { joined = ap (λ ls. line ∷ ls) (sym left); looks = kind-ends (question_line line) (line_input line) (placed-is old lines (program_line line) Ends told); earlier = tt };
+      cut = record { joined = ap (λ ls. line ∷ ls) (sym left); looks = kind-ends (question_line line) (line_input line) (placed-is old lines (program_line line) Ends found); earlier = tt };
       program = sym all ∙ sym (append-nil old);
       same = refl;
     }

@@ -52,7 +52,7 @@ kind-reads (May replies) input line skipped is = ap (λ i. commands_of (i ∷ []
 kind-reads Misspelled input line skipped is = absurd (cc)
 kind-reads (NoReply k) input line skipped is = absurd (cc)
 
--- the reads behind it
+-- the reads of a look, where it goes on
 abbrev reads_or : List Action → Result Look Reason → List Action
 reads_or reads (Err why) = reads
 reads_or reads (Ok look) = look.reads
@@ -79,9 +79,9 @@ commands-more Overlong inputs = refl
 commands-more (Asked action) inputs = refl
 
 taken-reads : (geo : Geometry) (look next : Look) (line : List ℕ) (kind : Result LookLine Reason) → look_line line ≡ kind → with_taken geo look kind ≡ Ok next → next.reads ≡ look.reads ++ commands_of (line_input line ∷ [])
-taken-reads geo look next line (Err why) told is = absurd (cc)
-taken-reads geo look next line (Ok l) told is =
-    line-reads geo look next l is ∙ ap (λ reads. look.reads ++ reads) (sym (kind-reads (question_line line) (line_input line) l (question-skipped line) told))
+taken-reads geo look next line (Err why) found is = absurd (cc)
+taken-reads geo look next line (Ok l) found is =
+    line-reads geo look next l is ∙ ap (λ reads. look.reads ++ reads) (sym (kind-reads (question_line line) (line_input line) l (question-skipped line) found))
 
 abbrev unasked : ℕ → Result Look Untaken
 unasked n = Err (record { number = n; why = NothingAsked })
@@ -100,9 +100,9 @@ look-reads geo n look end (line ∷ lines) is = go (with_taken geo look (look_li
   where
     go : (r : Result Look Reason) → with_taken geo look (look_line line) ≡ r → go_on n (λ next. look_from geo (n + 1) next lines) r ≡ Ok end
         → ((next : Look) → look_from geo (n + 1) next lines ≡ Ok end → end.reads ≡ next.reads ++ commands_of (inputs_of lines)) → end.reads ≡ look.reads ++ commands_of (inputs_of (line ∷ lines))
-    go (Err why) told is rest = absurd (cc)
-    go (Ok next) told is rest =
-        rest next is ∙ ap (λ reads. reads ++ commands_of (inputs_of lines)) (taken-reads geo look next line (look_line line) refl told)
+    go (Err why) found is rest = absurd (cc)
+    go (Ok next) found is rest =
+        rest next is ∙ ap (λ reads. reads ++ commands_of (inputs_of lines)) (taken-reads geo look next line (look_line line) refl found)
         ∙ append_assoc look.reads (commands_of (line_input line ∷ [])) (commands_of (inputs_of lines))
         ∙ ap (λ reads. look.reads ++ reads) (sym (commands-more (line_input line) (inputs_of lines)))
 
@@ -111,10 +111,10 @@ pub performed : (geo : Geometry) (text : List ℕ) (e : Exploration) → script_
 performed geo text e is = by_parts (parts_from [] (lines_of text)) refl is
   where
     by_look : (parts : Parts) (r : Result Look Untaken) → parts_from [] (lines_of text) ≡ Ok parts → look_from geo (length parts.lines + 2) look_start parts.look ≡ r → script_with parts.lines r ≡ Taken e → IsPerformed text e
-    by_look parts (Err stop) told looked is = absurd (cc)
-    by_look parts (Ok look) told looked is =
+    by_look parts (Err stop) found looked is = absurd (cc)
+    by_look parts (Ok look) found looked is =
         let same : record { first = first_of parts.lines; program = program_of parts.lines; refused = refused_from false parts.lines; reads = look.reads; table = look.table; list = look.list; questions = look.questions } ≡ e = cc in
-        let read = parts-read [] (lines_of text) parts told in
+        let read = parts-read [] (lines_of text) parts found in
         subst (IsPerformed text) same (record {
           before = read.before;
           look = read.look;
@@ -127,5 +127,5 @@ performed geo text e is = by_parts (parts_from [] (lines_of text)) refl is
         })
 
     by_parts : (r : Result Parts Untaken) → parts_from [] (lines_of text) ≡ r → script_of_parts geo r ≡ Taken e → IsPerformed text e
-    by_parts (Err stop) told is = absurd (cc)
-    by_parts (Ok parts) told is = by_look parts (look_from geo (length parts.lines + 2) look_start parts.look) told refl is
+    by_parts (Err stop) found is = absurd (cc)
+    by_parts (Ok parts) found is = by_look parts (look_from geo (length parts.lines + 2) look_start parts.look) found refl is

@@ -1,4 +1,4 @@
--- A script that is to be explored: its program, and the questions behind it.
+-- A script that is to be explored: its program, and its questions.
 use Rattle.std.specs.Prelude.{ℕ, Bool, true, false, not, ◌||◌, ◌&&◌, ◌==◌, ◌+◌, List, [], ◌∷◌, ◌++◌, length, is_some, if◌then◌else◌, Option, Some, None, Result, Ok, Err}
 use Rattle.std.specs.List.{list_any}
 use Rattle.script_text.specs.Action.{Action}
@@ -85,7 +85,7 @@ is_asked look = look.table || look.list || not (length look.questions == 0)
 abbrev pub asks_of_reads : Look → Bool
 asks_of_reads look = not (length look.reads == 0) && is_asked look
 
--- one read more, but not behind what is asked
+-- one read more, but not after what is asked
 abbrev pub with_read : Look → Action → Result Look Reason
 with_read look read = if is_asked look then Err ReadAfterAQuestion else Ok (record look { reads = look.reads ++ read ∷ [] })
 
@@ -106,11 +106,11 @@ abbrev pub with_taken : Geometry → Look → Result LookLine Reason → Result 
 with_taken geo look (Err why) = Err why
 with_taken geo look (Ok line) = with_line geo look line
 
--- the look at the end of a script, behind which a line would have that number: something has to be asked of some read
+-- the look at the end of a script, after which a line would have that number: something has to be asked of some read
 abbrev pub look_end : ℕ → Look → Result Look Untaken
 look_end n look = if asks_of_reads look then Ok look else Err (record { number = n; why = NothingAsked })
 
--- behind some lines of a look: those of number n and so on
+-- after some lines of a look: those of number n and so on
 abbrev pub look_from : Geometry → ℕ → Look → List (List ℕ) → Result Look Untaken
 look_from geo n look [] = look_end n look
 look_from geo n look (line ∷ lines) = go_on n (λ next. look_from geo (n + 1) next lines) (with_taken geo look (look_line line))
@@ -128,7 +128,7 @@ script_with lines (Ok look) = Taken (record {
 })
 script_with lines (Err stop) = StopsAt stop.number stop.why
 
--- the look begins behind its line, which is none of the program
+-- the look begins after its line, which is none of the program
 abbrev pub script_of_parts : Geometry → Result Parts Untaken → Script
 script_of_parts geo (Ok parts) = script_with parts.lines (look_from geo (length parts.lines + 2) look_start parts.look)
 script_of_parts geo (Err stop) = StopsAt stop.number stop.why

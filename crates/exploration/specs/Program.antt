@@ -35,25 +35,25 @@ abbrev pub program_of : List ProgramLine → List (Option Action)
 program_of [] = []
 program_of (line ∷ lines) = (if has_begin (line ∷ lines) then None else action_in line) ∷ program_of lines
 
--- whether the next command is to be refused: behind a line, where that was so before it or not
-abbrev pub marks_behind : Bool → ProgramLine → Bool
-marks_behind marks (Does None) = marks
-marks_behind marks (Does (Some action)) = false
-marks_behind marks Begins = marks
-marks_behind marks Refuses = true
-marks_behind marks Ends = marks
+-- whether the next command is to be refused, after a line before which that was so or not
+abbrev pub marks_after : Bool → ProgramLine → Bool
+marks_after marks (Does None) = marks
+marks_after marks (Does (Some action)) = false
+marks_after marks Begins = marks
+marks_after marks Refuses = true
+marks_after marks Ends = marks
 
--- behind some lines
+-- after some lines
 abbrev pub marks_from : Bool → List ProgramLine → Bool
 marks_from marks [] = marks
-marks_from marks (line ∷ lines) = marks_from (marks_behind marks line) lines
+marks_from marks (line ∷ lines) = marks_from (marks_after marks line) lines
 
 -- of each line, whether its command is to be refused
 abbrev pub refused_from : Bool → List ProgramLine → List Bool
 refused_from marks [] = []
-refused_from marks (line ∷ lines) = (marks && is_some (action_in line)) ∷ refused_from (marks_behind marks line) lines
+refused_from marks (line ∷ lines) = (marks && is_some (action_in line)) ∷ refused_from (marks_after marks line) lines
 
--- a line is a command, or one comes later; none does behind the program's end
+-- a line is a command, or one comes later; none does after the program's end
 abbrev pub command_or : Result ProgramLine Reason → Bool → Bool
 command_or (Err why) later = later
 command_or (Ok (Does None)) later = later
@@ -67,7 +67,7 @@ abbrev pub has_command : List (List ℕ) → Bool
 has_command [] = false
 has_command (line ∷ lines) = command_or (program_line line) (has_command lines)
 
--- a line behind some of the program and before others, or why it is not taken there
+-- a line after some of the program and before others, or why it is not taken there
 abbrev pub placed : List ProgramLine → List (List ℕ) → ProgramLine → Result ProgramLine Reason
 placed before later (Does item) = Ok (Does item)
 placed before later Begins = if has_begin before then Err Again else Ok Begins
@@ -100,7 +100,7 @@ part_by before later rest Begins = rest (before ++ Begins ∷ [])
 part_by before later rest Refuses = rest (before ++ Refuses ∷ [])
 part_by before later rest Ends = Ok (record { lines = before; look = later })
 
--- behind some lines of a program: the others, and without a look nothing is asked
+-- after some lines of a program: the others, and without a look nothing is asked
 abbrev pub parts_from : List ProgramLine → List (List ℕ) → Result Parts Untaken
 parts_from before [] = Err (record { number = length before + 1; why = NothingAsked })
 parts_from before (line ∷ lines) =

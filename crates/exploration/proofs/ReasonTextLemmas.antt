@@ -11,8 +11,8 @@ use Rattle.exploration.specs.declared.reason.Reason.TheVariants as why
 use Rattle.exploration.specs.Telling.{IsInRange, numbered_text, reason_text, replies_text}
 
 -- a reason without numbers, by its text, and by itself
-abbrev told_by : List ℕ → Option Reason
-told_by text =
+abbrev of_text : List ℕ → Option Reason
+of_text text =
     if bytes_eq text (codes "toolong") then Some why.TooLong
     else (if bytes_eq text (codes "spelling") then Some why.Spelling
     else (if bytes_eq text (codes "command") then Some why.Command
@@ -42,23 +42,23 @@ plain_of (why.Place k) = None
 plain_of (why.Refusal k) = None
 plain_of why.NothingAsked = Some why.NothingAsked
 
-told-plain : (a : Reason) → told_by (reason_text a) ≡ plain_of a
-told-plain why.TooLong = refl
-told-plain why.Spelling = refl
-told-plain why.Command = refl
-told-plain why.NotInAProgram = refl
-told-plain why.NotInALook = refl
-told-plain why.BeforeTheLook = refl
-told-plain why.ReadAfterAQuestion = refl
-told-plain why.Again = refl
-told-plain why.NoCommand = refl
-told-plain (why.Reply k) = refl
-told-plain (why.Replies given reads) = refl
-told-plain (why.Kind k) = refl
-told-plain (why.Length k) = refl
-told-plain (why.Place k) = refl
-told-plain (why.Refusal k) = refl
-told-plain why.NothingAsked = refl
+of_text-plain : (a : Reason) → of_text (reason_text a) ≡ plain_of a
+of_text-plain why.TooLong = refl
+of_text-plain why.Spelling = refl
+of_text-plain why.Command = refl
+of_text-plain why.NotInAProgram = refl
+of_text-plain why.NotInALook = refl
+of_text-plain why.BeforeTheLook = refl
+of_text-plain why.ReadAfterAQuestion = refl
+of_text-plain why.Again = refl
+of_text-plain why.NoCommand = refl
+of_text-plain (why.Reply k) = refl
+of_text-plain (why.Replies given reads) = refl
+of_text-plain (why.Kind k) = refl
+of_text-plain (why.Length k) = refl
+of_text-plain (why.Place k) = refl
+of_text-plain (why.Refusal k) = refl
+of_text-plain why.NothingAsked = refl
 
 plain-same : (a b : Reason) → plain_of a ≡ Some b → a ≡ b
 plain-same why.TooLong b is = cc
@@ -100,11 +100,11 @@ abbrev is_tail : List ℕ → Bool
 is_tail [] = true
 is_tail (c ∷ cs) = c == 32
 
-abbrev parts_behind : List ℕ → List (List ℕ)
-parts_behind [] = []
-parts_behind (c ∷ cs) = slice_split (λ c. c == 32) cs
+abbrev parts_after : List ℕ → List (List ℕ)
+parts_after [] = []
+parts_after (c ∷ cs) = slice_split (λ c. c == 32) cs
 
-split-number : (k : ℕ) (what : List ℕ) → k < 2 ^ 64 → is_tail what ≡ true → slice_split (λ c. c == 32) (decimal k ++ what) ≡ decimal k ∷ parts_behind what
+split-number : (k : ℕ) (what : List ℕ) → k < 2 ^ 64 → is_tail what ≡ true → slice_split (λ c. c == 32) (decimal k ++ what) ≡ decimal k ∷ parts_after what
 split-number k [] small tail = ap (slice_split (λ c. c == 32)) (append-nil (decimal k)) ∙ split-alone (λ c. c == 32) (decimal k) (decimal-solid k small)
 split-number k (c ∷ cs) small tail = split-before (λ c. c == 32) (decimal k) c cs (decimal-solid k small) tail
 
@@ -162,7 +162,7 @@ numbered why.NothingAsked small none = absurd (cc)
 one-reply : (a b : Reason) → IsOfReply a → IsOfReply b → reason_text a ≡ reason_text b → a ≡ b
 one-reply a b x y e =
     let same = numbers-same x.number y.number x.what y.what x.small y.small x.tail y.tail (append_cancel_left (codes "reply ") _ _ (sym x.text ∙ e ∙ y.text)) in
-    let told : Some a ≡ Some b = sym x.back ∙ ap (λ k. with_what k x.what) same.0 ∙ ap (with_what y.number) same.1 ∙ y.back in
+    let both : Some a ≡ Some b = sym x.back ∙ ap (λ k. with_what k x.what) same.0 ∙ ap (with_what y.number) same.1 ∙ y.back in
     cc
 
 all-replies : (a b : Reason) → IsOfReplies a → IsOfReplies b → reason_text a ≡ reason_text b → a ≡ b
@@ -184,7 +184,7 @@ pub reasons-apart : (a b : Reason) → IsInRange a → IsInRange b → reason_te
 reasons-apart a b small low e = go (plain_of a) refl
   where
     other : plain_of b ≡ plain_of a
-    other = sym (told-plain b) ∙ ap told_by (sym e) ∙ told-plain a
+    other = sym (of_text-plain b) ∙ ap of_text (sym e) ∙ of_text-plain a
 
     by_kind : IsOfReply a ⊎ IsOfReplies a → IsOfReply b ⊎ IsOfReplies b → a ≡ b
     by_kind (inl x) (inl y) = one-reply a b x y e
