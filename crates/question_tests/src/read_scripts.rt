@@ -124,6 +124,7 @@ fn cuts_are_asked_about_from_begin_on(rt: HostRuntime) -> Result<(), Fail> {
     assert!(rt; matches!(read.program[5], Some(Command::VStore { .. })));
     let refused = [false, false, false, false, true, false];
     assert!(rt; read.refused.as_slice() == refused.as_slice());
+    assert_eq!(rt; read.questions.len(), 2);
     assert_eq!(rt; read.questions[0].wanted, Wanted::May);
     assert_eq!(rt; read.questions[1].wanted, Wanted::Never);
     Ok(())
