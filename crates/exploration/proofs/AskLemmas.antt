@@ -1,6 +1,7 @@
 -- A question of which some reads were asked.
 use Rattle.std.proofs.Common.{◌≡◌, ℕ, Bool, true, ◌+◌, ◌-◌, ◌==◌, ◌<◌, ◌≤◌, false, ◌++◌, List, [], ◌∷◌, map, drop, get_or, Option, Some, None, Result, Ok, Err, length, subst, append_assoc, append-nil, refl, ap, sym, ◌∙◌, arith}
-use Rattle.std.specs.Prelude.{IsOkAnd, IsSomeAnd, option_map, if◌then◌else◌}
+use Rattle.std.specs.Prelude.{IsOkAnd, IsSomeAnd, is_some, option_map, if◌then◌else◌}
+use Rattle.std.specs.List.{list_any}
 use Rattle.script_text.specs.Action.{Action}
 use Rattle.reply_text.specs.Answer.{Answer}
 use Rattle.questions.specs.declared.reply.AskedReply.{AskedReply}
@@ -209,3 +210,9 @@ pub question-short : (geo : Geometry) (reads : List Read) (replies : List (Optio
     → question_of geo (commands reads) (answers replies) ≡ Err (Replies (length replies) (length reads))
 question-short geo reads replies other =
     rw (length-map replies (option_map answer_asked), length-map reads read_action, other) refl
+
+-- whether there is a reply, by its answer
+pub any-mapped : (replies : List (Option AskedReply)) → list_any is_some (answers replies) ≡ list_any is_some replies
+any-mapped [] = refl
+any-mapped (None ∷ replies) = any-mapped replies
+any-mapped (Some reply ∷ replies) = refl

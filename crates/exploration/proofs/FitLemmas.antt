@@ -11,9 +11,9 @@ use Rattle.outcomes.specs.Seen.Seen.{of_blocks, of_file, of_volume}
 use Rattle.asked_reads.specs.declared.question.Question.{Question}
 use Rattle.asked_reads.specs.declared.read.Read.{Read}
 use Rattle.asked_reads.specs.declared.read.Read.TheVariants.{Blocks, File, Volume}
-use Rattle.asked_reads.specs.Asking.{IsLook, blocks_of, files_asked, may_be_file_reply, may_be_replies, volume_asked}
+use Rattle.asked_reads.specs.Asking.{IsLook, blocks_of, files_asked, may_be_file_reply, may_be_replies}
 use Rattle.asked_reads.specs.Looking.{read_action}
-use Rattle.exploration.specs.declared.reason.Reason.TheVariants.{Kind, Length, Place, Refusal}
+use Rattle.exploration.specs.declared.reason.Reason.TheVariants.{Length, Place, Refusal}
 use Rattle.exploration.specs.declared.stop.ReplyStop.{ReplyStop}
 use Rattle.exploration.specs.declared.stop.ReplyStop.TheVariants as reply
 use Rattle.exploration.specs.Fitting.{fits, fits_seen, has_length, has_place, has_refusal, may_be}

@@ -1,6 +1,12 @@
 pub mod TextLemmas
 pub mod LookLemmas
+pub mod LineLemmas
 pub mod ProgramLemmas
+pub mod PartLemmas
+pub mod ScriptLemmas
+pub mod PerformLemmas
+pub mod ReadLemmas
 pub mod AskLemmas
 pub mod FitLemmas
 pub mod SeenLemmas
+pub mod ReasonTextLemmas

@@ -1,14 +1,13 @@
 -- A look that was read up to some line.
 use Rattle.std.proofs.Common.{◌≡◌, ℕ, Bool, true, false, ◌==◌, ◌+◌, ◌<◌, ◌≤◌, List, [], ◌∷◌, ◌++◌, map, Option, Some, None, Result, Ok, Err, length, refl, ap, sym, ◌∙◌, arith}
-use Rattle.std.specs.Prelude.{suc, not, ◌&&◌, ◌||◌, IsOkAnd, IsSomeAnd, if◌then◌else◌}
+use Rattle.std.specs.Prelude.{suc, not, ◌||◌, IsOkAnd, IsSomeAnd, if◌then◌else◌}
 use Rattle.std.proofs.lemmas.List.{length-map}
 use Rattle.script_text.specs.Script.{lines_of}
 use Rattle.reply_text.specs.Answer.{Answer}
-use Rattle.outcomes.specs.Seen.{Seen}
-use Rattle.asked_reads.specs.declared.question.Question.{Question}
-use Rattle.asked_reads.specs.Asking.{IsLook}
 use Rattle.script_text.specs.Action.{Action}
 use Rattle.asked_reads.specs.Looking.{read_action}
+use Rattle.exploration.specs.declared.asking.Asking.{Asking}
+use Rattle.exploration.specs.declared.asking.Wanted.{Wanted}
 use Rattle.exploration.specs.declared.look.Look.{Look as LookHeld}
 use Rattle.exploration.specs.declared.stop.LineStop.{LineStop}
 use Rattle.exploration.specs.declared.stop.LineStop.TheVariants.{Memory, Untaken}
@@ -16,10 +15,11 @@ use Rattle.word_tables.specs.declared.geometry.Geometry.{Geometry}
 use Rattle.exploration.specs.declared.exploration.ScriptFault.TheVariants.{Line}
 use Rattle.exploration.specs.declared.reason.Reason.{Reason}
 use Rattle.exploration.specs.declared.reason.Reason.TheVariants.{NothingAsked}
-use Rattle.exploration.specs.Exploration.{Look, asks_of_reads, go_on, is_asked, look_from, look_start, question_of, with_taken}
+use Rattle.exploration.specs.Exploration.{Asked, Look, asking_of, asks_of_reads, is_asked, look_from, look_start, with_taken}
+use Rattle.exploration.specs.Program.{go_on}
 use Rattle.exploration.specs.Lines.{LookLine, look_line}
 use Rattle.exploration.specs.Lines.LookLine.{Asks}
-use Rattle.exploration.specs.Reading.{AskOf}
+use Rattle.exploration.specs.Reading.{AskOf, IsAsking}
 use Rattle.exploration.specs.Steps.{IsHeld, ReadsLook, TakesLine, fault_at}
 
 pub some_and : {A : Type 0} (o : Option A) (P : A → Type 0) → IsSomeAnd o P → (x : A) × (o ≡ Some x) × P x
@@ -84,7 +84,7 @@ look_up_to-nothing geo text first held n rest asks up over is none =
     rw (e, test) refl
 
 -- as many questions are asked as are held
-asked-count : (looks : List (List Seen)) (qs : List Question) → AskOf looks qs → length looks ≡ length qs
+asked-count : (looks : List Asked) (qs : List Asking) → AskOf looks qs → length looks ≡ length qs
 asked-count [] [] asked = refl
 asked-count [] (q ∷ qs) asked = absurd asked
 asked-count (look ∷ looks) [] asked = absurd asked
@@ -98,19 +98,19 @@ held_asked look held is = rw (is.table, is.list, asked-count look.questions held
 pub held_reads : (look : Look) (held : LookHeld) → IsHeld look held → length look.reads ≡ length held.reads.items
 held_reads look held is = sym (ap length is.reads) ∙ length-map held.reads.items read_action
 
-asked-more : (looks : List (List Seen)) (qs : List Question) (look : List Seen) (q : Question) → AskOf looks qs → IsLook look q → AskOf (looks ++ look ∷ []) (qs ++ q ∷ [])
+asked-more : (looks : List Asked) (qs : List Asking) (look : Asked) (q : Asking) → AskOf looks qs → IsAsking look q → AskOf (looks ++ look ∷ []) (qs ++ q ∷ [])
 asked-more [] [] look q asked is = (is, tt)
 asked-more [] (r ∷ qs) look q asked is = absurd asked
 asked-more (l ∷ looks) [] look q asked is = absurd asked
 asked-more (l ∷ looks) (r ∷ qs) look q asked is = (asked.0, asked-more looks qs look q asked.1 is)
 
 -- one question more
-pub held-asks : (geo : Geometry) (look : Look) (old new : LookHeld) (kind : Result LookLine Reason) (replies : List (Option Answer)) (reads : List Action) (q : Question) (ok : Bool) → IsHeld look old
-    → kind ≡ Ok (Asks replies) → reads ≡ map read_action old.reads.items → IsOkAnd (question_of geo reads replies) (λ asked. IsLook asked q)
+pub held-asks : (geo : Geometry) (look : Look) (old new : LookHeld) (kind : Result LookLine Reason) (wanted : Wanted) (replies : List (Option Answer)) (reads : List Action) (q : Asking) (ok : Bool) → IsHeld look old
+    → kind ≡ Ok (Asks wanted replies) → reads ≡ map read_action old.reads.items → IsOkAnd (asking_of geo reads wanted replies) (λ asked. IsAsking asked q)
     → new.questions.items ≡ (if ok then old.questions.items ++ q ∷ [] else old.questions.items) → ok ≡ true → new.reads.items ≡ old.reads.items → new.table ≡ old.table → new.list ≡ old.list
     → IsOkAnd (with_taken geo look kind) (λ next. IsHeld next new)
-held-asks geo look old new kind replies reads q ok is asks all finds questions done same table list =
-    let asked = ok_and (question_of geo reads replies) (λ asked. IsLook asked q) finds in
-    let found : question_of geo look.reads replies ≡ Ok asked.0 = ap (λ rs. question_of geo rs replies) (sym (all ∙ is.reads)) ∙ asked.1 in
+held-asks geo look old new kind wanted replies reads q ok is asks all finds questions done same table list =
+    let asked = ok_and (asking_of geo reads wanted replies) (λ asked. IsAsking asked q) finds in
+    let found : asking_of geo look.reads wanted replies ≡ Ok asked.0 = ap (λ rs. asking_of geo rs wanted replies) (sym (all ∙ is.reads)) ∙ asked.1 in
     let grown : new.questions.items ≡ old.questions.items ++ q ∷ [] = questions ∙ ap (λ b. if b then old.questions.items ++ q ∷ [] else old.questions.items) done in
     rw (asks, found) (record { reads = ap (map read_action) same ∙ is.reads; table = table ∙ is.table; list = list ∙ is.list; questions = rw grown (asked-more look.questions old.questions.items asked.0 q is.questions asked.2) })

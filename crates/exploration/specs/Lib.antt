@@ -3,7 +3,10 @@ pub mod Reads
 pub mod Fitting
 pub mod Telling
 pub mod Lines
+pub mod Program
 pub mod Exploration
+pub mod Performing
 pub mod Reading
 pub mod Steps
 pub mod Rows
+pub mod MarkRows

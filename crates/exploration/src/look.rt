@@ -7,13 +7,14 @@ ghost use Rattle.exploration.specs.Lines.{look_line};
 ghost use Rattle.asked_reads.specs.Looking.{read_action};
 ghost use Rattle.exploration.specs.Steps.{IsHeld, ReadsLook, TakesLine};
 
+use crate::asking::Asking;
 use crate::exploration::ScriptFault;
 use crate::lines::next_line;
 use crate::look_lines::{LookLine, read_look_line};
-use crate::question::question_of;
+use crate::question::asking_of;
 use crate::reason::Reason;
 use crate::stop::LineStop;
-use asked_reads::{Question, Read};
+use asked_reads::Read;
 use std::alloc::{AllocError, Global};
 use word_tables::Geometry;
 
@@ -22,7 +23,7 @@ pub(crate) struct Look {
     pub(crate) reads: Vec<Read>,
     pub(crate) table: bool,
     pub(crate) list: bool,
-    pub(crate) questions: Vec<Question>,
+    pub(crate) questions: Vec<Asking>,
 }
 
 // The questions of a look whose first line has this number.
@@ -76,14 +77,10 @@ impl Look {
                 self.list = true;
                 Ok(())
             }
-            LookLine::Asks(replies) => {
-                let question = question_of(
-                    alloc,
-                    geometry,
-                    self.reads.as_slice(),
-                    replies.as_slice(),
-                )?;
-                self.questions.push(question).map_err(AllocError::from)?;
+            LookLine::Asks(wanted, replies) => {
+                let reads = self.reads.as_slice();
+                let asking = asking_of(alloc, geometry, reads, wanted, replies.as_slice())?;
+                self.questions.push(asking).map_err(AllocError::from)?;
                 Ok(())
             }
         }

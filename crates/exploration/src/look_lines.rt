@@ -7,6 +7,7 @@ ghost use Rattle.exploration.specs.Lines.{look_input, look_line};
 ghost use Rattle.exploration.specs.Reads.{read_of};
 ghost use Rattle.exploration.specs.Steps.{Finds, look_line_of};
 
+use crate::asking::Wanted;
 use crate::reason::Reason;
 use crate::stop::LineStop;
 use asked_reads::Read;
@@ -24,7 +25,7 @@ pub(crate) enum LookLine {
     /// A list of all outcomes.
     List,
     /// A question, by the replies to all reads.
-    Asks(Replies),
+    Asks(Wanted, Replies),
 }
 
 pub(crate) fn read_look_line(alloc: Global, line: &[u8]) -> Result<LookLine, LineStop>
@@ -32,10 +33,14 @@ pub(crate) fn read_look_line(alloc: Global, line: &[u8]) -> Result<LookLine, Lin
 {
     match read_question(alloc, line) {
         Ok(QuestionKind::Plain) => read_plain_line(alloc, line),
-        Ok(QuestionKind::Never(replies)) => Ok(LookLine::Asks(replies)),
+        Ok(QuestionKind::Never(replies)) => Ok(LookLine::Asks(Wanted::Never, replies)),
+        Ok(QuestionKind::May(replies)) => Ok(LookLine::Asks(Wanted::May, replies)),
         Ok(QuestionKind::Table) => Ok(LookLine::Table),
         Ok(QuestionKind::List) => Ok(LookLine::List),
         Ok(QuestionKind::Look) => Err(LineStop::Untaken(Reason::Again)),
+        Ok(QuestionKind::Begin | QuestionKind::Refused) => {
+            Err(LineStop::Untaken(Reason::NotInALook))
+        },
         Err(QuestionFault::Spelling) => Err(LineStop::Untaken(Reason::Spelling)),
         Err(QuestionFault::Reply(k)) => Err(LineStop::Untaken(Reason::Reply(k))),
         Err(QuestionFault::Memory) => Err(LineStop::Memory),

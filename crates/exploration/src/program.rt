@@ -1,50 +1,116 @@
-// The program of a script.
-ghost use Rattle.std.specs.Prelude.{◌≡◌, ◌≤◌, ◌<◌, ◌+◌, ◌^◌, [], All, IfOk, length, vec_len};
+// The program of a script, line by line.
+ghost use Rattle.std.specs.Prelude.{◌≡◌, [], ◌∷◌, ◌++◌, None, IfErr, IfOk, List, OnOk, option_map, replicate};
+ghost use Rattle.script_text.specs.Action.{action_of};
 ghost use Rattle.script_text.specs.Script.{lines_of};
-ghost use Rattle.outcomes.specs.Stops.{IsProgram};
-ghost use Rattle.exploration.specs.Exploration.{parts_from};
-ghost use Rattle.asked_reads.specs.Program.{IsBounded, inputs_of_lines};
-ghost use Rattle.exploration.specs.Steps.{ReadsParts};
+ghost use Rattle.exploration.specs.Lines.{ProgramLine as LineOfProgram, program_line};
+ghost use Rattle.exploration.specs.Lines.ProgramLine.{Begins, Does, Refuses};
+ghost use Rattle.exploration.specs.Program.{placed, placed_line};
+ghost use Rattle.exploration.specs.Steps.{AddsLine, AreCommands, IsProgramHeld, TakesProgramLine};
 
-use crate::exploration::ScriptFault;
-use crate::lines::next_line;
+use crate::ahead::has_command;
 use crate::program_lines::{ProgramLine, read_program_line};
 use crate::reason::Reason;
+use crate::stop::LineStop;
 use script_text::Command;
 use std::alloc::{AllocError, Global};
+use std::mem;
 
 #[derive(Drop)]
-pub(crate) struct Parts<'a> {
-    /// One item for each line.
-    pub(crate) program: Vec<Option<Command>>,
-    /// What comes after the program.
-    pub(crate) look: &'a [u8],
+pub(crate) struct Program {
+    /// One item for each line up to `# begin`.
+    pub(crate) first: Vec<Option<Command>>,
+    /// One item for each line, None up to `# begin`.
+    pub(crate) lines: Vec<Option<Command>>,
+    /// Whether the command of each line is to be refused.
+    pub(crate) refused: Vec<bool>,
+    /// Whether the next command is.
+    marks: bool,
 }
 
-// The program of a script, and the text of its look.
-pub(crate) fn read_program(alloc: Global, script: &[u8]) -> Result<Parts<'_>, ScriptFault>
-    requires { length script.now < 2 ^ 32 }
-    ensures script { ReadsParts (parts_from [] (lines_of script.now)) result }
-    ensures program { IfOk result (λ parts. IsProgram (inputs_of_lines parts.program.items)) }
-    ensures bounds { IfOk result (λ parts. All IsBounded parts.program.items) }
-    ensures room { IfOk result (λ parts. vec_len parts.program + length parts.look.now ≤ length script.now) }
-{
-    let mut program = Vec::new(alloc);
-    let mut rest = script;
-    while let Some((line, others)) = next_line(rest) {
-        let number = program.len() as u64 + 1;
-        match read_program_line(alloc, line) {
-            Ok(ProgramLine::Does(command)) => program.push(command).map_err(AllocError::from)?,
-            Ok(ProgramLine::Ends) => {
-                return Ok(Parts {
-                    program,
-                    look: others,
-                });
-            },
-            Err(stop) => return Err(stop.at(number)),
+impl Program {
+    pub(crate) fn new(alloc: Global) -> Self
+        ensures { IsProgramHeld [] result }
+    {
+        Program {
+            first: Vec::new(alloc),
+            lines: Vec::new(alloc),
+            refused: Vec::new(alloc),
+            marks: false,
         }
-        rest = others;
     }
-    let end = program.len() as u64 + 1;
-    Err(ScriptFault::Line(end, Reason::NothingAsked))
+
+    // One line more, before others: whether it is one of the program.
+    pub(crate) fn take(
+        &mut self,
+        alloc: Global,
+        line: &[u8],
+        others: &[u8],
+    ) -> Result<bool, LineStop>
+        ensures { (before : List LineOfProgram) → IsProgramHeld before self.old
+            → TakesProgramLine before (placed_line before (lines_of others.now) (program_line line.now)) self.new result }
+    {
+        match read_program_line(alloc, line)? {
+            ProgramLine::Does(command) => self.add(command)?,
+            ProgramLine::Begins => self.begin(alloc)?,
+            ProgramLine::Refuses => self.mark(alloc, others)?,
+            ProgramLine::Ends => return Ok(false),
+        }
+        Ok(true)
+    }
+
+    // A line with this command, or without one.
+    fn add(&mut self, command: Option<Command>) -> Result<(), LineStop>
+        requires { AreCommands (command ∷ []) }
+        ensures line { (before : List LineOfProgram) → IsProgramHeld before self.old
+            → OnOk result (IsProgramHeld (before ++ Does (option_map action_of command) ∷ []) self.new) }
+        ensures cause { IfErr result (λ e. e ≡ LineStop.Memory) }
+    {
+        let is_command = command.is_some();
+        self.refused
+            .push(self.marks && is_command)
+            .map_err(AllocError::from)?;
+        self.lines.push(command).map_err(AllocError::from)?;
+        self.marks = self.marks && !is_command;
+        Ok(())
+    }
+
+    // Cuts are asked about from the next line on.
+    fn begin(&mut self, alloc: Global) -> Result<(), LineStop>
+        ensures { (before : List LineOfProgram) → IsProgramHeld before self.old → AddsLine before (placed before [] Begins) self.new result }
+    {
+        if !self.first.is_empty() {
+            return Err(LineStop::Untaken(Reason::Again));
+        }
+        self.add(None)?;
+        let unasked = no_commands(alloc, self.lines.len())?;
+        self.first = mem::replace(&mut self.lines, unasked);
+        Ok(())
+    }
+
+    // The next command, which has to come, is to be refused.
+    fn mark(&mut self, alloc: Global, others: &[u8]) -> Result<(), LineStop>
+        ensures { (before : List LineOfProgram) → IsProgramHeld before self.old
+            → AddsLine before (placed before (lines_of others.now) Refuses) self.new result }
+    {
+        if self.marks {
+            return Err(LineStop::Untaken(Reason::Again));
+        }
+        if !has_command(alloc, others)? {
+            return Err(LineStop::Untaken(Reason::NoCommand));
+        }
+        self.add(None)?;
+        self.marks = true;
+        Ok(())
+    }
+}
+
+// So many lines without a command.
+fn no_commands(alloc: Global, n: usize) -> Result<Vec<Option<Command>>, AllocError>
+    ensures { IfOk result (λ lines. lines.items ≡ replicate n None) }
+{
+    let mut lines = Vec::new(alloc);
+    for _ in 0..n {
+        lines.push(None).map_err(AllocError::from)?;
+    }
+    Ok(lines)
 }

@@ -4,7 +4,7 @@ ghost use Rattle.script_text.specs.Action.{action_of};
 ghost use Rattle.script_text.specs.Script.{line_input};
 ghost use Rattle.outcomes.specs.Stops.{is_of_program};
 ghost use Rattle.exploration.specs.Lines.{program_input, program_line};
-ghost use Rattle.exploration.specs.Steps.{Finds, IsBoundedLine, program_line_of};
+ghost use Rattle.exploration.specs.Steps.{Finds, IsRightLine, program_line_of};
 
 use crate::reason::Reason;
 use crate::stop::LineStop;
@@ -16,18 +16,25 @@ use std::alloc::Global;
 pub(crate) enum ProgramLine {
     /// A command, or none.
     Does(Option<Command>),
+    /// Cuts are asked about from the next line on.
+    Begins,
+    /// The next command is to be refused.
+    Refuses,
     /// The look begins.
     Ends,
 }
 
 pub(crate) fn read_program_line(alloc: Global, line: &[u8]) -> Result<ProgramLine, LineStop>
     ensures line { Finds program_line_of (program_line line.now) result }
-    ensures bounds { IfOk result (λ line. IsBoundedLine line) }
+    ensures right { IfOk result (λ line. IsRightLine line) }
 {
     match read_question(alloc, line) {
         Ok(QuestionKind::Plain) => read_command(alloc, line),
+        Ok(QuestionKind::Begin) => Ok(ProgramLine::Begins),
+        Ok(QuestionKind::Refused) => Ok(ProgramLine::Refuses),
         Ok(QuestionKind::Look) => Ok(ProgramLine::Ends),
-        Ok(QuestionKind::List | QuestionKind::Table | QuestionKind::Never(_))
+        Ok(QuestionKind::List | QuestionKind::Table)
+        | Ok(QuestionKind::Never(_) | QuestionKind::May(_))
         | Err(QuestionFault::Reply(_)) => Err(LineStop::Untaken(Reason::BeforeTheLook)),
         Err(QuestionFault::Spelling) => Err(LineStop::Untaken(Reason::Spelling)),
         Err(QuestionFault::Memory) => Err(LineStop::Memory),
@@ -37,7 +44,7 @@ pub(crate) fn read_program_line(alloc: Global, line: &[u8]) -> Result<ProgramLin
 // One that is no question.
 fn read_command(alloc: Global, line: &[u8]) -> Result<ProgramLine, LineStop>
     ensures line { Finds program_line_of (program_input (line_input line.now)) result }
-    ensures bounds { IfOk result (λ line. IsBoundedLine line) }
+    ensures right { IfOk result (λ line. IsRightLine line) }
 {
     match parse(alloc, line) {
         Ok(None) => Ok(ProgramLine::Does(None)),

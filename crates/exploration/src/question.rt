@@ -1,18 +1,20 @@
 // The question that replies ask of reads.
-ghost use Rattle.std.specs.Prelude.{List, [], map, option_map};
+ghost use Rattle.std.specs.Prelude.{◌≡◌, List, [], is_some, map, option_map};
+ghost use Rattle.std.specs.List.{list_any};
 ghost use Rattle.word_tables.specs.Bounds.{IsValid};
 ghost use Rattle.questions.specs.Asked.{answer_asked};
 ghost use Rattle.outcomes.specs.Seen.{Seen};
 ghost use Rattle.outcomes.specs.Seen.Seen.{of_file};
 ghost use Rattle.asked_reads.specs.Asking.{IsLook};
-ghost use Rattle.exploration.specs.Exploration.{asked_from, question_of};
+ghost use Rattle.exploration.specs.Exploration.{asked_from, asking_of, asks_nothing, question_of};
 ghost use Rattle.exploration.specs.Fitting.{fits};
 ghost use Rattle.exploration.specs.Reads.{seen_by, seen_of};
 ghost use Rattle.asked_reads.specs.Looking.{read_action};
 ghost use Rattle.asked_reads.specs.Reads.{file_read as asked_file_read};
 ghost use Rattle.asked_reads.specs.declared.read.Read.TheVariants.{File};
-ghost use Rattle.exploration.specs.Steps.{AddsRead, AsksRead, FindsQuestion, FindsReply};
+ghost use Rattle.exploration.specs.Steps.{AddsRead, AsksRead, FindsAsking, FindsQuestion, FindsReply};
 
+use crate::asking::{Asking, Wanted};
 use crate::fitting::{has_length, has_place, has_refusal};
 use crate::reason::Reason;
 use crate::replies::{block_reply, file_reply, volume_reply};
@@ -24,8 +26,42 @@ use sights::may_be_replies;
 use std::alloc::{AllocError, Global};
 use word_tables::Geometry;
 
+// What has to be found is asked of some read.
+pub(crate) fn asking_of(
+    alloc: Global,
+    geometry: Geometry,
+    reads: &[Read],
+    wanted: Wanted,
+    replies: &[Option<AskedReply>],
+) -> Result<Asking, LineStop>
+    requires { IsValid geometry }
+    ensures { FindsAsking (asking_of geometry (map read_action reads.now) wanted (map (option_map answer_asked) replies.now)) result }
+{
+    let question = question_of(alloc, geometry, reads, replies)?;
+    if asks_nothing(wanted, replies) {
+        return Err(LineStop::Untaken(Reason::NothingAsked));
+    }
+    Ok(Asking { wanted, question })
+}
+
+// Any replies will do, where some have to be found.
+fn asks_nothing(wanted: Wanted, replies: &[Option<AskedReply>]) -> bool
+    ensures { result ≡ asks_nothing wanted (map (option_map answer_asked) replies.now) }
+{
+    match wanted {
+        Wanted::Never => false,
+        Wanted::May => !has_reply(replies),
+    }
+}
+
+fn has_reply(replies: &[Option<AskedReply>]) -> bool
+    ensures { result ≡ list_any is_some replies.now }
+{
+    replies.iter().any(|reply| reply.is_some())
+}
+
 // Each read needs a reply, or None for any.
-pub(crate) fn question_of(
+fn question_of(
     alloc: Global,
     geometry: Geometry,
     reads: &[Read],

@@ -15,8 +15,10 @@ pub enum Reason {
     BeforeTheLook,
     /// A read after what is asked of reads.
     ReadAfterAQuestion,
-    /// The look begins a second time.
+    /// A second look, a second begin, or a command that is marked twice.
     Again,
+    /// No command of the program comes after a mark.
+    NoCommand,
     /// The reply of that number, from 1 on, is none of a read.
     Reply(u64),
     /// Number of replies, where the reads are not as many.
@@ -29,6 +31,6 @@ pub enum Reason {
     Place(u64),
     /// The read is refused where the reply is not, or the reply where the read is not.
     Refusal(u64),
-    /// All lines are taken, and nothing is asked.
+    /// All lines are taken, and nothing is asked; or nothing that has to be found.
     NothingAsked,
 }

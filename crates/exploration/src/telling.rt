@@ -20,6 +20,7 @@ impl Reason {
             Reason::BeforeTheLook => text.extend(b"before-the-look"),
             Reason::ReadAfterAQuestion => text.extend(b"read-after-a-question"),
             Reason::Again => text.extend(b"again"),
+            Reason::NoCommand => text.extend(b"no-command"),
             Reason::Reply(k) => print_numbered(k, b"", text),
             Reason::Replies { given, reads } => print_replies(given, reads, text),
             Reason::Kind(k) => print_numbered(k, b" kind", text),

@@ -1,11 +1,11 @@
 -- Questions are comments.
-use Rattle.std.proofs.Common.{◌≡◌, ◌≢◌, ◌==◌, ℕ, Bool, true, false, List, [], ◌∷◌, length, nat_lt, if◌then◌else◌, codes, refl, ap, subst}
+use Rattle.std.proofs.Common.{◌≡◌, ◌≢◌, ◌==◌, ℕ, Bool, true, false, List, [], ◌∷◌, length, nat_lt, if◌then◌else◌, codes, refl, ap}
 use Rattle.std.specs.Str.{bytes_eq}
 use Rattle.std.specs.Io.BufRead.{strip_last}
 use Rattle.std.proofs.lemmas.Slice.Eq.{bytes_eq-Decides}
-use Rattle.script_text.specs.Script.{Input, asked, command_action, is_comment, words_of, words_input, line_input}
+use Rattle.script_text.specs.Script.{asked, command_action, is_comment, words_of, words_input, line_input}
 use Rattle.script_text.specs.Script.Input.{Skipped, Overlong}
-use Rattle.questions.specs.Question.{QuestionLine, comment_question, marked_question, near_question, words_question, question_line}
+use Rattle.questions.specs.Question.{comment_question, marked_question, near_question, words_question, question_line}
 use Rattle.questions.specs.Question.QuestionLine.{Plain}
 
 marked_skipped : (mark : List ℕ) (words : List (List ℕ)) → marked_question mark words ≢ Plain → words_input (mark ∷ words) ≡ Skipped

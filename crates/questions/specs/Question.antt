@@ -10,24 +10,31 @@ use Rattle.questions.specs.Asked.{answer_asked, part_asked}
 use Rattle.questions.specs.Near.{is_near}
 use Rattle.questions.specs.Parts.{parts_of}
 
--- a line: no question, the start of the reads, a list of outcomes, a table of values, replies that may come of the reads, a question that
--- is not spelled right, or one whose reply of that number is none
+-- a line: no question, the place from which cuts are asked about, a mark that the next command is to be refused, the start of the reads, a
+-- list of outcomes, a table of values, replies that the reads are to have after no cut, and after some cut, a
+-- question that is not spelled right, or one whose reply of that number is none
 pub data QuestionLine : Type 0 where
   Plain : QuestionLine
+  Begins : QuestionLine
+  Refuses : QuestionLine
   Look : QuestionLine
   Lists : QuestionLine
   Tabulates : QuestionLine
   Never : List (Option Answer) → QuestionLine
+  May : List (Option Answer) → QuestionLine
   Misspelled : QuestionLine
   NoReply : ℕ → QuestionLine
 
 -- what a line's kind is
 abbrev pub line_of : QuestionKind → QuestionLine
 line_of kind.Plain = Plain
+line_of kind.Begin = Begins
+line_of kind.Refused = Refuses
 line_of kind.Look = Look
 line_of kind.List = Lists
 line_of kind.Table = Tabulates
 line_of (kind.Never replies) = Never (map (option_map answer_asked) replies.items)
+line_of (kind.May replies) = May (map (option_map answer_asked) replies.items)
 
 -- the reply of that number before others, where all are there, and else the number of the first that is not
 abbrev pub with_reply : ℕ → Option (Option Answer) → Result (List (Option Answer)) ℕ → Result (List (Option Answer)) ℕ
@@ -40,10 +47,10 @@ abbrev pub parts_asked : ℕ → List (List (List ℕ)) → Result (List (Option
 parts_asked k [] = Ok []
 parts_asked k (part ∷ parts) = with_reply k (part_asked part) (parts_asked (k + 1) parts)
 
--- the question of these replies
-abbrev pub never_line : Result (List (Option Answer)) ℕ → QuestionLine
-never_line (Err k) = NoReply k
-never_line (Ok replies) = Never replies
+-- the question of that kind, of these replies
+abbrev pub replies_line : (List (Option Answer) → QuestionLine) → Result (List (Option Answer)) ℕ → QuestionLine
+replies_line of (Err k) = NoReply k
+replies_line of (Ok replies) = of replies
 
 -- the question, where no word is left
 abbrev pub alone : QuestionLine → List (List ℕ) → QuestionLine
@@ -61,7 +68,10 @@ comment_question (word ∷ words) =
     if bytes_eq word (codes "look") then alone Look words
     else (if bytes_eq word (codes "list") then alone Lists words
     else (if bytes_eq word (codes "table") then alone Tabulates words
-    else (if bytes_eq word (codes "never") then never_line (parts_asked 1 (parts_of words)) else near_question word words)))
+    else (if bytes_eq word (codes "never") then replies_line Never (parts_asked 1 (parts_of words))
+    else (if bytes_eq word (codes "may") then replies_line May (parts_asked 1 (parts_of words))
+    else (if bytes_eq word (codes "begin") then alone Begins words
+    else (if bytes_eq word (codes "refused") then alone Refuses words else near_question word words))))))
 
 -- what the words of a line ask that begins with such a word, where it is no `#` alone
 abbrev pub marked_question : List ℕ → List (List ℕ) → QuestionLine

@@ -1,5 +1,5 @@
 -- What reading a question may give.
-use Rattle.std.specs.Prelude.{◌≡◌, ℕ, List, [], ◌∷◌, codes, map, Option, Some, None, option_map, Result, Ok, Err}
+use Rattle.std.specs.Prelude.{◌≡◌, ◌⊎◌, ℕ, List, [], ◌∷◌, codes, map, Option, Some, None, option_map, Result, Ok, Err}
 use Rattle.nvm_base.specs.Stock.{Stock}
 use Rattle.reply_text.specs.Answer.{Answer}
 use Rattle.questions.specs.declared.question.QuestionFault.{QuestionFault}
@@ -38,12 +38,12 @@ Reads line (Err fault.Spelling) = line ≡ Misspelled
 Reads line (Err (fault.Reply k)) = line ≡ NoReply k
 Reads line (Err fault.Memory) = Unit {0}
 
--- the first word is `never`
-abbrev pub BeginsWithNever : List (List ℕ) → Type 0
-BeginsWithNever [] = ⊥
-BeginsWithNever (word ∷ words) = word ≡ codes "never"
+-- the first word is `never` or `may`
+abbrev pub BeginsWithQuestion : List (List ℕ) → Type 0
+BeginsWithQuestion [] = ⊥
+BeginsWithQuestion (word ∷ words) = (word ≡ codes "never") ⊎ (word ≡ codes "may")
 
--- the first words are `#` and `never`
+-- the first words are `#`, and `never` or `may`
 abbrev pub AsksOfReads : List (List ℕ) → Type 0
 AsksOfReads [] = ⊥
-AsksOfReads (mark ∷ words) = (mark ≡ codes "#") × BeginsWithNever words
+AsksOfReads (mark ∷ words) = (mark ≡ codes "#") × BeginsWithQuestion words

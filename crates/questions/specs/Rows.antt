@@ -3,7 +3,7 @@ use Rattle.std.specs.Prelude.{◌≡◌, [], ◌∷◌, ◌++◌, Some, None, re
 use Rattle.reply_text.specs.Answer.Answer.{Bytes, PoisonBlock, PoisonVolume, PoisonFile, Scarred, Refused}
 use Rattle.reply_text.specs.declared.reply.Why.TheVariants.{Missing, Off}
 use Rattle.questions.specs.Question.{question_line}
-use Rattle.questions.specs.Question.QuestionLine.{Plain, Look, Lists, Tabulates, Never, Misspelled, NoReply}
+use Rattle.questions.specs.Question.QuestionLine.{Plain, Begins, Refuses, Look, Lists, Tabulates, Never, May, Misspelled, NoReply}
 
 pub record QuestionRows : Type 0 where
   pub bytes_or_any : question_line (codes "# never data 01,00 | _") ≡ Never (Some (Bytes (1 ∷ 0 ∷ [])) ∷ None ∷ [])
@@ -61,3 +61,20 @@ pub record QuestionRows : Type 0 where
   pub blank_line : question_line [] ≡ Plain
   pub longest_line : question_line (codes "# look" ++ replicate 65530 32) ≡ Look
   pub longer_line : question_line (codes "# look" ++ replicate 65531 32) ≡ Plain
+  pub may_be_found : question_line (codes "# may data 01,00 | _") ≡ May (Some (Bytes (1 ∷ 0 ∷ [])) ∷ None ∷ [])
+  pub may_any : question_line (codes "# may _") ≡ May (None ∷ [])
+  pub second_reply_that_may_not_be : question_line (codes "# may _ | ok") ≡ NoReply 2
+  pub may_alone : question_line (codes "# may") ≡ NoReply 1
+  pub may_the_power_go_in_lower_case : question_line (codes "# may the power go") ≡ NoReply 1
+  pub may_in_one_word : question_line (codes "#may data 00") ≡ Misspelled
+  pub may_in_upper_case : question_line (codes "# May data 00") ≡ Misspelled
+  pub begin : question_line (codes "# begin") ≡ Begins
+  pub begin_and_a_word : question_line (codes "# begin here") ≡ Misspelled
+  pub begin_in_upper_case : question_line (codes "# Begin") ≡ Misspelled
+  pub begin_in_one_word : question_line (codes "#begin") ≡ Misspelled
+  pub begin_with_the_log : question_line (codes "# Begin with the log") ≡ Plain
+  pub refused : question_line (codes "# refused") ≡ Refuses
+  pub refused_and_a_word : question_line (codes "# refused missing") ≡ Misspelled
+  pub refused_in_upper_case : question_line (codes "# REFUSED") ≡ Misspelled
+  pub refused_in_one_word : question_line (codes "#refused") ≡ Misspelled
+  pub refused_before : question_line (codes "# Refused before") ≡ Plain

@@ -10,14 +10,20 @@ pub type Replies = Buffer<Option<AskedReply>>;
 pub enum QuestionKind {
     /// Nothing.
     Plain,
+    /// The cuts that are asked about begin here.
+    Begin,
+    /// The next command is wanted to be refused.
+    Refused,
     /// The reads after the cut come next.
     Look,
     /// A list of outcomes.
     List,
     /// A table of the values that the reads may find.
     Table,
-    /// Whether the reads may be answered so.
+    /// Replies that the reads should have after no cut.
     Never(Replies),
+    /// Replies that they should have after some cut.
+    May(Replies),
 }
 
 /// Why a line's question is not taken.

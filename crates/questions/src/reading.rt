@@ -3,7 +3,7 @@ ghost use Rattle.std.specs.Prelude.{◌≡◌, ◌≢◌, ◌≤◌, IfErr, leng
 ghost use Rattle.std.specs.Io.BufRead.{strip_last};
 ghost use Rattle.script_text.specs.Script.{words_of};
 ghost use Rattle.questions.specs.Question.{alone, comment_question, line_of, near_question, question_line, words_question};
-ghost use Rattle.questions.specs.Reading.{AsksOfReads, BeginsWithNever, Reads};
+ghost use Rattle.questions.specs.Reading.{AsksOfReads, BeginsWithQuestion, Reads};
 
 use crate::near::is_near;
 use crate::never::read_replies;
@@ -53,7 +53,7 @@ fn read_words(alloc: Global, text: &[u8]) -> Result<QuestionKind, QuestionFault>
 #[tactic(auto, unfolding(crate::specs::Question::comment_question))]
 fn read_comment(alloc: Global, words: &[u8]) -> Result<QuestionKind, QuestionFault>
     ensures line { Reads (comment_question (words_of words.now)) result }
-    ensures memory { IfErr result (λ e. e ≡ QuestionFault.Memory → BeginsWithNever (words_of words.now)) }
+    ensures memory { IfErr result (λ e. e ≡ QuestionFault.Memory → BeginsWithQuestion (words_of words.now)) }
 {
     let Some((word, rest)) = next_word(words) else {
         return Ok(QuestionKind::Plain);
@@ -66,6 +66,12 @@ fn read_comment(alloc: Global, words: &[u8]) -> Result<QuestionKind, QuestionFau
         alone(QuestionKind::Table, rest)
     } else if word == b"never".as_slice() {
         Ok(QuestionKind::Never(read_replies(alloc, rest)?))
+    } else if word == b"may".as_slice() {
+        Ok(QuestionKind::May(read_replies(alloc, rest)?))
+    } else if word == b"begin".as_slice() {
+        alone(QuestionKind::Begin, rest)
+    } else if word == b"refused".as_slice() {
+        alone(QuestionKind::Refused, rest)
     } else {
         near_question(word, rest)
     }
