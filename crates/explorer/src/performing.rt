@@ -1,5 +1,6 @@
 // A program is performed on the device, to learn which of its commands are done.
-ghost use Rattle.std.specs.Prelude.{◌≡◌, [], ◌∷◌, All, IfErr, IfOk, IsTrue, OnOk, length};
+ghost use Rattle.std.specs.Prelude.{◌≡◌, [], ◌∷◌, All, IfErr, IfOk, IfSome, IsTrue, OnOk, length, option_map};
+ghost use Rattle.reply_text.specs.Answer.{IsPrintable, answer_of};
 ghost use Rattle.script_text.specs.Action.{action_of};
 ghost use Rattle.script_text.specs.Parsing.{InBounds};
 ghost use Rattle.cut_places.specs.MachineModel.Machine.{Machine};
@@ -15,7 +16,8 @@ ghost use Rattle.explorer.specs.Stopping.{DeviceStopped, NoneFell};
 use crate::came::Came;
 use crate::fault::ExploreFault;
 use line_device::LineDevice;
-use machine_host::Host;
+use machine_host::{Host, Outcome};
+use reply_text::{Reply, Why};
 use script_text::Command;
 use std::alloc::{AllocError, Global};
 
@@ -63,24 +65,25 @@ fn line_done<D: LineDevice>(
     ensures cause { IfErr result (λ fault. fault ≡ ExploreFault.Device → DeviceStopped (D.state device.old).panel (D.state device.new).panel) }
 {
     match line {
-        Some(command) => is_done(host, device, command, work),
+        Some(command) => Ok(refusal_of(host, device, command, work)?.is_none()),
         None => Ok(false),
     }
 }
 
-// Performs a command, and tells whether it was done.
-fn is_done<D: LineDevice>(
+/// Performs a command: the reply that refuses it, None where it is done.
+pub fn refusal_of<D: LineDevice>(
     host: &mut Host,
     device: &mut D,
     command: &Command,
     work: &mut [u8],
-) -> Result<bool, ExploreFault>
+) -> Result<Option<Reply>, ExploreFault>
     requires known { GoesOn host.old (D.state device.old) }
     requires wide { length work.old ≡ 65536 }
     requires program { IsTrue (is_of_program (action_of command.now)) }
     requires bounded { InBounds (action_of command.now) }
     ensures done { (h : Machine) → Stands host.old (D.state device.old) h → IsReady h
-        → IfOk result (IsDone h (action_of command.now) host.new (D.state device.new)) }
+        → IfOk result (λ refused. IsDone h (action_of command.now) host.new (D.state device.new) (option_map answer_of refused)) }
+    ensures printable { IfOk result (λ refused. IfSome refused (λ reply. IsPrintable (answer_of reply))) }
     ensures known { OnOk result (GoesOn host.new (D.state device.new)) }
     ensures counts { OnOk result (NoneFell (D.state device.old).panel (D.state device.new).panel) }
     ensures cause { IfErr result (λ fault. fault ≡ ExploreFault.Device → DeviceStopped (D.state device.old).panel (D.state device.new).panel) }
@@ -88,14 +91,17 @@ fn is_done<D: LineDevice>(
     // The program's own cut in some calls is one of those that are asked about.
     if let Command::CutIn { calls } = command {
         if *calls == 0 {
-            return Ok(false);
+            return Ok(Some(Reply::Refused(Why::Range)));
         }
         arm(host, device, work)?;
-        return Ok(true);
+        return Ok(None);
     }
-    match Came::of(&host.answer(device, command, work)?) {
-        Came::Done => Ok(true),
-        Came::Refused => Ok(false),
+    let Outcome::Reply(reply) = host.answer(device, command, work)? else {
+        return Ok(None);
+    };
+    match Came::of_reply(&reply) {
+        Came::Done => Ok(None),
+        Came::Refused => Ok(Some(reply)),
         Came::Stopped => Err(ExploreFault::Device),
     }
 }

@@ -6,10 +6,6 @@ pub on_ok : {A E : Type 0} {P Q : Type 0} (result : Result A E) → (P → Q) �
 on_ok (Ok x) so is = so is
 on_ok (Err e) so is = tt
 
-pub on_ok_all : {A E : Type 0} {P Q R S : Type 0} (result : Result A E) → (P → Q → R → S) → OnOk result P → OnOk result Q → OnOk result R → OnOk result S
-on_ok_all (Ok x) so p q r = so p q r
-on_ok_all (Err e) so p q r = tt
-
 pub on_found_all : {A E : Type 0} {P Q R S : A → Type 0} (result : Result A E) → ((x : A) → P x → Q x → R x → S x) → IfOk result P → IfOk result Q → IfOk result R → IfOk result S
 on_found_all (Ok x) so p q r = so x p q r
 on_found_all (Err e) so p q r = tt
