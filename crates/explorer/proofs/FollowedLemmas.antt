@@ -1,7 +1,6 @@
 -- What is looked at, once a command was followed.
-use Rattle.std.proofs.Common.{◌≡◌, true, false, Option, Some, None, Result, Ok, Err, IsTrue, map, refl, sym, ap, subst, ◌∙◌}
+use Rattle.std.proofs.Common.{◌≡◌, true, false, Option, Some, None, IsTrue, map, refl, sym, ap, subst, ◌∙◌}
 use Rattle.std.specs.Option.{is_none}
-use Rattle.std.specs.Result.{OnOk}
 use Rattle.word_tables.specs.declared.geometry.Geometry.{Geometry}
 use Rattle.script_text.specs.Action.{Action}
 use Rattle.reply_text.specs.Answer.{Answer}
@@ -43,8 +42,3 @@ follows_refused now geo h action follows refused = by_refusal (refusal h action)
     by_refusal : (o : Option Answer) → is_none o ≡ false → Follows now geo (led_to h (unless_refused h o ((meaning action).comes h)))
     by_refusal None none = cc none
     by_refusal (Some why) none = follows
-
--- what is so where a call did well
-pub on_ok_all : {A E : Type 0} {P Q R S : Type 0} (result : Result A E) → (P → Q → R → S) → OnOk result P → OnOk result Q → OnOk result R → OnOk result S
-on_ok_all (Ok x) so p q r = so p q r
-on_ok_all (Err e) so p q r = tt

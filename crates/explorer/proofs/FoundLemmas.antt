@@ -1,6 +1,5 @@
 -- The first place of a cut that shows what is asked, and what is kept there.
-use Rattle.std.proofs.Common.{◌≡◌, Option, Some, None, Result, Ok, Err, List, sym, ap, subst}
-use Rattle.std.specs.Result.{IfOk}
+use Rattle.std.proofs.Common.{◌≡◌, Option, None, List, sym, ap, subst}
 use Rattle.script_text.specs.Script.{Input}
 use Rattle.cut_places.specs.MachineModel.Machine.{Machine}
 use Rattle.cut_places.specs.Outcomes.Finds.{armed}
@@ -14,7 +13,7 @@ pub nothing_found : (look : List Seen) (stops : List Stop) → first_stop (may_s
 nothing_found look stops none = subst (λ stop. IsFound look stop None) (sym none) tt
 
 -- in a state in which a cut is armed already
-pub found_armed : {E : Type 0} (look : List Seen) (program : List Input) (h : Machine) (result : Result (Option Found) E) → armed h ≡ h
-    → IfOk result (IsFound look (first_stop (may_show look) (cut_places 1 h program))) → IfOk result (IsFound look (found_stop h program look))
-found_armed look program h result same is =
-    subst (λ stop. IfOk result (IsFound look stop)) (ap (λ m. first_stop (may_show look) (cut_places 1 m program)) (sym same)) is
+pub found_armed : (look : List Seen) (program : List Input) (h : Machine) (found : Option Found) → armed h ≡ h
+    → IsFound look (first_stop (may_show look) (cut_places 1 h program)) found → IsFound look (found_stop h program look) found
+found_armed look program h found same is =
+    subst (λ stop. IsFound look stop found) (ap (λ m. first_stop (may_show look) (cut_places 1 m program)) (sym same)) is

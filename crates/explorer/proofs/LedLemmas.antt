@@ -1,23 +1,22 @@
 -- What the state that lines of a program lead to keeps.
 use Rattle.std.proofs.Common.{◌≡◌, inl, true, IsTrue, Option, Some, None, List, [], ◌∷◌, refl, sym, ap, ◌∙◌}
 use Rattle.reply_text.specs.Answer.{Answer}
-use Rattle.reply_text.specs.Answer.Answer.{Done}
+use Rattle.reply_text.specs.Answer.Answer.{Done, Refused}
+use Rattle.reply_text.specs.declared.reply.Why.TheVariants.{Syntax, TooLong}
 use Rattle.script_text.specs.Action.{Action}
 use Rattle.script_text.specs.Script.{Input}
 use Rattle.script_text.specs.Script.Input.{Skipped, Malformed, Overlong, Asked}
 use Rattle.cut_places.specs.MachineModel.Machine.{Machine, Fate}
 use Rattle.cut_places.specs.MachineModel.Machine.Fate.{Gives, Works, Orders, Cuts, Restarts, Recovers}
 use Rattle.cut_places.specs.MachineModel.Commands.{fate, meaning, refusal, spending, unless_refused}
-use Rattle.cut_places.specs.MachineModel.Run.{Hears, Takes, Transcript, answered, with_order, worked}
+use Rattle.cut_places.specs.MachineModel.Run.{Hears, Run, Takes, Transcript, answered, followed_by, silence, with_order, worked}
 use Rattle.cut_places.specs.Outcomes.Finds.{IsReady, armed}
 use Rattle.cut_places.specs.Outcomes.Stops.{IsProgram, is_of_program, led_to}
 use Rattle.cut_places.proofs.Durable.WholeLemmas.{whole-heard}
 use Rattle.cut_places.proofs.Outcomes.FollowLemmas.{Follows, Keeps, of_program}
 use Rattle.cut_places.proofs.SightsSeen.SizeLemmas.{geometry_stays}
 use Rattle.value_tables.specs.Listed.{IsSound}
-use Rattle.value_tables.specs.OutcomeRuns.Brings.{BringRight, BringsRight}
 use Rattle.value_tables.specs.OutcomeRuns.Kept.{IsKept}
-use Rattle.value_tables.proofs.OutcomeRuns.KeptLemmas.{kept_step}
 use Rattle.value_tables.proofs.SoundLemmas.{next}
 use Rattle.explorer.specs.Leading.{led_through}
 
@@ -72,10 +71,10 @@ module _ (h : Machine) (action : Action) where
           failures = kept.failures ∙ ready.failures;
         }
 
-    kept_next : IsReady h → IsKept h → BringsRight action → IsKept (led_to h (fate h action))
-    kept_next ready kept right =
-        let taken = heard in
-        kept_step h action taken.0 (led_to h (fate h action)) ready kept right taken.1 (keeps_next.mode ∙ ready.mode)
+-- a run after one input
+behind : (h : Machine) (input : Input) (inputs : List Input) (first : Transcript) (next : Machine) → Hears h input first next
+    → (said : Transcript) × Run next inputs said (led_through next inputs) → (said : Transcript) × Run h (input ∷ inputs) said (led_through next inputs)
+behind h input inputs first next hears rest = (followed_by first rest.0, (first, rest.0, next, refl, hears, rest.1))
 
 -- what each command of a program keeps, lines keep
 pub led_keeps : (P : Machine → Type 0) → ((h : Machine) (action : Action) → IsTrue (is_of_program action) → P h → P (led_to h (fate h action)))
@@ -104,11 +103,17 @@ armed_led h inputs program =
     let on : to.cut_armed ≡ true = led_keeps (λ m. m.cut_armed ≡ true) (λ m action of was. (keeps_next m action of).armed was) inputs (armed h) program refl in
     ap (λ b. record to { cut_armed = b }) (sym on)
 
--- it is one of which an image can be made
-pub kept_led : (h : Machine) (inputs : List Input) → IsProgram inputs → BringRight inputs → IsReady h → IsKept h → IsKept (led_through h inputs)
-kept_led h [] program right ready kept = kept
-kept_led h (Skipped ∷ inputs) program right ready kept = kept_led h inputs program right ready kept
-kept_led h (Malformed ∷ inputs) program right ready kept = kept_led h inputs program right ready kept
-kept_led h (Overlong ∷ inputs) program right ready kept = kept_led h inputs program right ready kept
-kept_led h (Asked action ∷ inputs) program right ready kept =
-    kept_led (led_to h (fate h action)) inputs program.1 right.1 (ready_next h action program.0 ready) (kept_next h action program.0 ready kept right.0)
+-- a run comes to it
+pub run_led : (inputs : List Input) (h : Machine) → IsProgram inputs → (said : Transcript) × Run h inputs said (led_through h inputs)
+run_led [] h program = (silence, (refl, refl))
+run_led (Skipped ∷ inputs) h program = behind h Skipped inputs silence h (refl, refl) (run_led inputs h program)
+run_led (Malformed ∷ inputs) h program = behind h Malformed inputs (answered (Refused Syntax)) h (refl, refl) (run_led inputs h program)
+run_led (Overlong ∷ inputs) h program = behind h Overlong inputs (answered (Refused TooLong)) h (refl, refl) (run_led inputs h program)
+run_led (Asked action ∷ inputs) h program =
+    let first = heard h action program.0 in
+    let next = led_to h (fate h action) in
+    behind h (Asked action) inputs first.0 next first.1 (run_led inputs next program.1)
+
+-- storage of which an image can be made is so where a cut is armed
+pub kept_armed : (h : Machine) → IsKept h → IsKept (armed h)
+kept_armed h kept = record { valid = kept.valid; blocks = kept.blocks; values = kept.values; file_values = kept.file_values; listed = kept.listed }

@@ -6,6 +6,7 @@ pub mod CauseLemmas
 pub mod UntoldLemmas
 pub mod FoundLemmas
 pub mod LookingLemmas
+pub mod ResultLemmas
 pub mod FollowedLemmas
 pub mod LedLemmas
 pub mod WentLemmas

@@ -1,7 +1,9 @@
 -- A report grows line by line.
-use Rattle.std.proofs.Common.{◌≡◌, ◌+◌, ◌<◌, ◌≤◌, ◌++◌, ℕ, suc, Bool, false, Option, Some, None, List, [], ◌∷◌, length, drop, drop-cons, get_or, refl, sym, ap, ◌∙◌, append-nil, append_assoc, arith}
+use Rattle.std.proofs.Common.{◌≡◌, ◌+◌, ◌<◌, ◌≤◌, ◌++◌, ℕ, suc, Bool, false, Option, Some, None, option_map, List, ◌∷◌, length, drop, drop-cons, get_or, refl, sym, ap, ◌∙◌, append-nil, append_assoc, arith}
+use Rattle.std.specs.Option.{IfSome}
 use Rattle.std.proofs.lemmas.List.{drop_all}
-use Rattle.reply_text.specs.Answer.{Answer, IsPrintable}
+use Rattle.reply_text.specs.declared.reply.Reply.{Reply}
+use Rattle.reply_text.specs.Answer.{Answer, IsPrintable, answer_of}
 use Rattle.reply_text.specs.Answer.Answer.{Done, DoneBad, Bytes, Ranges, Files, Yes, No, Handle, Happened, NoEvent, BadLines, Attribute, Scarred, PoisonBlock, PoisonVolume, PoisonFile, VerifyFile, DeviceFailed, PowerLost, Stopped, Refused, RefusedMeta}
 use Rattle.script_text.specs.declared.command.Command.{Command}
 use Rattle.script_text.specs.Action.{action_of}
@@ -39,6 +41,18 @@ refusal_printable (Stopped line) is = tt
 refusal_printable (Refused why) is = tt
 refusal_printable (RefusedMeta line) is = tt
 
+pub reply_printable : (refused : Option Reply) (answer : Answer) → option_map answer_of refused ≡ Some answer → came.Refused ≡ came_of answer
+    → IfSome refused (λ reply. IsPrintable (answer_of reply))
+reply_printable None answer is told = tt
+reply_printable (Some reply) answer is told =
+    let same : answer_of reply ≡ answer = cc is in
+    refusal_printable (answer_of reply) (told ∙ ap came_of (sym same))
+
+-- three texts after a text, one after another
+pub three_behind : (a b c d u v w : List ℕ) → u ≡ a ++ b → v ≡ u ++ c → w ≡ v ++ d → w ≡ a ++ (b ++ (c ++ d))
+three_behind a b c d u v w first second third =
+    third ∙ ap (λ t. t ++ d) (second ∙ ap (λ t. t ++ c) first) ∙ append_assoc (a ++ b) c d ∙ append_assoc a b (c ++ d)
+
 -- So much is reported of the lines before this one, where these are reported from that state on.
 pub record IsReported (lines : List (Option Command)) (wanted : List Bool) (begun : List ℕ) (i : ℕ) (text : List ℕ) (h to : Machine) : Type 0 where
   pub is : begun ++ refusals_from 1 h (inputs_of_lines lines) wanted ≡ text ++ refusals_from (i + 1) to (inputs_of_lines (drop i lines)) (drop i wanted)
@@ -71,16 +85,15 @@ module _ (lines : List (Option Command)) (wanted : List Bool) (begun : List ℕ)
   }
 
   -- a command
-  pub reported_on : (command : Command) → line ≡ Some command → (refused : Option Answer) (grown : List ℕ) → refusal to (action_of command) ≡ refused
-      → grown ≡ text ++ refusal_line (i + 1) refused mark → IsReported lines wanted begun (i + 1) grown h (led_to to (fate to (action_of command)))
-  reported_on command some refused grown told more =
+  pub reported_on : (command : Command) → line ≡ Some command → (grown : List ℕ) → grown ≡ text ++ refusal_line (i + 1) (refusal to (action_of command)) mark
+      → IsReported lines wanted begun (i + 1) grown h (led_to to (fate to (action_of command)))
+  reported_on command some grown more =
       let next = led_to to (fate to (action_of command)) in
       let rest = inputs_of_lines (drop (i + 1) lines) in
       let marks = drop (i + 1) wanted in
       record {
         is = both_next (Some command) some
-            ∙ ap (λ o. text ++ (refusal_line (i + 1) o mark ++ refusals_from (suc (i + 1)) next rest marks)) told
-            ∙ sym (append_assoc text (refusal_line (i + 1) refused mark) (refusals_from (suc (i + 1)) next rest marks))
+            ∙ sym (append_assoc text (refusal_line (i + 1) (refusal to (action_of command)) mark) (refusals_from (suc (i + 1)) next rest marks))
             ∙ ap (λ t. t ++ refusals_from (suc (i + 1)) next rest marks) (sym more)
             ∙ ap (λ n. grown ++ refusals_from n next rest marks) (suc_is (i + 1));
       }

@@ -2,11 +2,10 @@
 use Rattle.std.proofs.Common.{◌≡◌, ◌+◌, ◌<◌, ◌≤◌, ℕ, Option, Some, None, List, ◌∷◌, length, drop, get_or, refl, sym, ap, ◌∙◌}
 use Rattle.std.proofs.lemmas.List.{drop_all}
 use Rattle.line_device.specs.Device.{Device}
-use Rattle.reply_text.specs.Answer.{Answer}
 use Rattle.script_text.specs.declared.command.Command.{Command}
 use Rattle.script_text.specs.Action.{action_of}
 use Rattle.cut_places.specs.MachineModel.Machine.{Machine}
-use Rattle.cut_places.specs.MachineModel.Commands.{fate, refusal}
+use Rattle.cut_places.specs.MachineModel.Commands.{fate}
 use Rattle.cut_places.specs.AskedReads.Program.{inputs_of_lines}
 use Rattle.cut_places.specs.Outcomes.Finds.{IsReady}
 use Rattle.cut_places.specs.Outcomes.Stops.{led_to}
@@ -14,7 +13,7 @@ use Rattle.cut_places.proofs.GoingLemmas.{at_line}
 use Rattle.machine_host.specs.Settling.{GoesOn}
 use Rattle.machine_host.specs.Stands.{HostState, Stands}
 use Rattle.explorer.specs.Leading.{led_through}
-use Rattle.explorer.specs.Performing.{IsDone}
+use Rattle.explorer.specs.Performing.{IsAfter}
 use Rattle.explorer.specs.Stopping.{NoneFell}
 use Rattle.explorer.proofs.CauseLemmas.{fell_later, none_fell}
 
@@ -52,21 +51,21 @@ module _ (lines : List (Option Command)) (first : HostState) (begun : Device) (i
     }
 
     -- a command
-    pub went_on : (command : Command) → line ≡ Some command → (next : HostState) (new : Device) (refused : Option Answer) → GoesOn next new → NoneFell d.panel new.panel
-        → ((h : Machine) → Stands host d h → IsReady h → IsDone h (action_of command) next new refused)
-        → ((h to : Machine) → Told h to → refusal to (action_of command) ≡ refused → Later h (led_to to (fate to (action_of command))))
+    pub went_on : (command : Command) → line ≡ Some command → (next : HostState) (new : Device) (Came : Machine → Type 0) → GoesOn next new → NoneFell d.panel new.panel
+        → ((h : Machine) → Stands host d h → IsReady h → Came h × IsAfter h (action_of command) next new)
+        → ((h to : Machine) → Told h to → Came to → Later h (led_to to (fate to (action_of command))))
         → Went lines first begun (i + 1) next new Later
-    went_on command some next new refused known counts comes later = record {
+    went_on command some next new Came known counts comes later = record {
       known = known;
       counts = fell_later begun.panel d.panel new.panel went.counts counts;
       comes = λ h stands ready.
           let before = went.comes h stands ready in
-          let done = comes before.0 before.1 before.2 in (
+          let came = comes before.0 before.1 before.2 in (
             led_to before.0 (fate before.0 (action_of command)),
-            done.stands,
-            done.ready,
+            came.1.stands,
+            came.1.ready,
             before.3 ∙ ap (λ ls. led_through before.0 (inputs_of_lines ls)) (lines_next ∙ ap (λ l. l ∷ drop (i + 1) lines) some),
-            later h before.0 before.4 done.told,
+            later h before.0 before.4 came.0,
           );
     }
 

@@ -21,8 +21,8 @@ pub record WorkedReports : Type 0 where
   pub file_that_is_missing : Reports (codes "vstore 0 01" ∷ codes "# a comment" ∷ codes "fwrite log 0 01" ∷ []) (false ∷ false ∷ false ∷ [])
       (codes "refused 3 missing" ∷ [])
   pub sync_of_a_bad_line : Reports
-      (codes "vstore 0 07*128" ∷ codes "vsync 0 128" ∷ codes "poison volume 64" ∷ codes "vsync 0 128" ∷ codes "vload 0 128" ∷ [])
-      (false ∷ false ∷ false ∷ false ∷ false ∷ []) (codes "refused 5 poison volume 64 64" ∷ [])
+      (codes "vstore 0 07*128" ∷ codes "vsync 0 128" ∷ codes "poison volume 64" ∷ codes "vsync 0 128" ∷ [])
+      (false ∷ false ∷ false ∷ false ∷ []) (codes "refused 4 poison volume 64 64" ∷ [])
   pub scarred_block : Reports (codes "bscar 7 1" ∷ codes "bread 6 2" ∷ []) (false ∷ false ∷ []) (codes "refused 2 scarred 7" ∷ [])
   pub wanted_and_refused : Reports (codes "vstore 9999 01" ∷ codes "vstore 0 01" ∷ []) (true ∷ false ∷ []) []
   pub wanted_and_done : Reports (codes "vstore 0 01" ∷ codes "delete log" ∷ []) (true ∷ false ∷ []) (codes "not refused 1" ∷ codes "refused 2 missing" ∷ [])

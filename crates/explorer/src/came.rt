@@ -24,33 +24,33 @@ impl Came {
     {
         match outcome {
             Outcome::Read(_) => Came::Done,
-            Outcome::Reply(reply) => Came::of_reply(reply),
+            Outcome::Reply(reply) => told_by(reply),
         }
     }
+}
 
-    pub fn of_reply(reply: &Reply) -> Came
-        ensures { result ≡ came_of (answer_of reply.now) }
-    {
-        match reply {
-            Reply::Done
-            | Reply::DoneBad(_)
-            | Reply::Ranges(_)
-            | Reply::Files(_)
-            | Reply::Yes
-            | Reply::No
-            | Reply::Handle(_)
-            | Reply::Happened(_)
-            | Reply::NoEvent
-            | Reply::BadLines(_)
-            | Reply::Attribute(_)
-            | Reply::VerifyFile(_, _) => Came::Done,
-            Reply::Scarred(_)
-            | Reply::PoisonBlock(_, _)
-            | Reply::PoisonVolume(_)
-            | Reply::PoisonFile(_, _)
-            | Reply::Refused(_)
-            | Reply::RefusedMeta(_) => Came::Refused,
-            Reply::DeviceFailed | Reply::PowerLost | Reply::Stopped(_) => Came::Stopped,
-        }
+fn told_by(reply: &Reply) -> Came
+    ensures { result ≡ came_of (answer_of reply.now) }
+{
+    match reply {
+        Reply::Done
+        | Reply::DoneBad(_)
+        | Reply::Ranges(_)
+        | Reply::Files(_)
+        | Reply::Yes
+        | Reply::No
+        | Reply::Handle(_)
+        | Reply::Happened(_)
+        | Reply::NoEvent
+        | Reply::BadLines(_)
+        | Reply::Attribute(_)
+        | Reply::VerifyFile(_, _) => Came::Done,
+        Reply::Scarred(_)
+        | Reply::PoisonBlock(_, _)
+        | Reply::PoisonVolume(_)
+        | Reply::PoisonFile(_, _)
+        | Reply::Refused(_)
+        | Reply::RefusedMeta(_) => Came::Refused,
+        Reply::DeviceFailed | Reply::PowerLost | Reply::Stopped(_) => Came::Stopped,
     }
 }

@@ -58,7 +58,8 @@ pub fn explore<D: LineDevice>(
         return Ok(None);
     }
     let watched = watch(alloc, host, device, first, program, question)?;
-    Ok(follow(alloc, program, question, geometry, watched)?)
+    let found = follow(alloc, program, question, geometry, watched)?;
+    Ok(found)
 }
 
 // What is found, in what was looked at.

@@ -12,7 +12,7 @@ ghost use Rattle.explorer.specs.Stopping.{DeviceStopped, NoneFell};
 
 use crate::fault::ExploreFault;
 use crate::following::follow;
-use crate::performing::refusal_of;
+use crate::performing::is_done;
 use cut_places::Sight;
 use line_device::LineDevice;
 use machine_host::Host;
@@ -43,8 +43,8 @@ pub fn lead<D: LineDevice>(
     let geometry = host.geometry();
     for line in lines {
         if let Some(command) = line {
-            let refused = refusal_of(host, device, command, work)?;
-            follow(geometry, command, refused.is_none(), sight)?;
+            let done = is_done(host, device, command, work)?;
+            follow(geometry, command, done, sight)?;
         }
     }
     Ok(())

@@ -1,14 +1,18 @@
 // A report of the lines whose commands are refused, or are not.
-ghost use Rattle.std.specs.Prelude.{◌≡◌, ◌≤◌, ◌<◌, ◌^◌, ◌++◌, All, IfErr, IfOk, IfSome, OnOk, length, option_map};
+ghost use Rattle.std.specs.Prelude.{◌≡◌, ◌≤◌, ◌++◌, true, false, All, IfErr, IfOk, IfSome, IsTrue, OnOk, length, option_map};
 ghost use Rattle.std.specs.Option.{option_copied};
 ghost use Rattle.reply_text.specs.Answer.{IsPrintable, answer_line, answer_of};
+ghost use Rattle.script_text.specs.Action.{action_of};
+ghost use Rattle.script_text.specs.Parsing.{InBounds};
+ghost use Rattle.cut_places.specs.MachineModel.Commands.{refusal};
 ghost use Rattle.cut_places.specs.MachineModel.Machine.{Machine};
 ghost use Rattle.machine_host.specs.Settling.{GoesOn};
 ghost use Rattle.machine_host.specs.Stands.{Stands};
 ghost use Rattle.cut_places.specs.Outcomes.Finds.{IsReady, armed};
-ghost use Rattle.cut_places.specs.Outcomes.Stops.{IsProgram};
+ghost use Rattle.cut_places.specs.Outcomes.Stops.{IsProgram, is_of_program};
 ghost use Rattle.cut_places.specs.AskedReads.Program.{IsBounded, inputs_of_lines};
 ghost use Rattle.explorer.specs.Leading.{led_through};
+ghost use Rattle.explorer.specs.Performing.{IsAfter};
 ghost use Rattle.explorer.specs.Reporting.{reason_line, refusal_line, refusals_from};
 ghost use Rattle.explorer.specs.Stopping.{DeviceStopped, NoneFell};
 
@@ -78,10 +82,45 @@ fn report_lines<D: LineDevice>(
 {
     for (i, line) in lines.iter().enumerate() {
         if let Some(command) = line {
-            let refused = refusal_of(host, device, command, work)?;
-            report_line(alloc, i as u64 + 1, refused.as_ref(), wanted[i], text)?;
+            report_command(
+                alloc,
+                host,
+                device,
+                command,
+                i as u64 + 1,
+                wanted[i],
+                work,
+                text,
+            )?;
         }
     }
+    Ok(())
+}
+
+// Performs the command of line n, and appends what is reported of it.
+fn report_command<D: LineDevice>(
+    alloc: Global,
+    host: &mut Host,
+    device: &mut D,
+    command: &Command,
+    n: u64,
+    wanted: bool,
+    work: &mut [u8],
+    text: &mut Bytes,
+) -> Result<(), ExploreFault>
+    requires known { GoesOn host.old (D.state device.old) }
+    requires wide { length work.old ≡ 65536 }
+    requires program { IsTrue (is_of_program (action_of command.now)) }
+    requires bounded { InBounds (action_of command.now) }
+    ensures text { (h : Machine) → Stands host.old (D.state device.old) h → IsReady h
+        → OnOk result ((text.new.items ≡ text.old.items ++ refusal_line n (refusal h (action_of command.now)) wanted)
+        × IsAfter h (action_of command.now) host.new (D.state device.new)) }
+    ensures known { OnOk result (GoesOn host.new (D.state device.new)) }
+    ensures counts { OnOk result (NoneFell (D.state device.old).panel (D.state device.new).panel) }
+    ensures cause { IfErr result (λ fault. fault ≡ ExploreFault.Device → DeviceStopped (D.state device.old).panel (D.state device.new).panel) }
+{
+    let refused = refusal_of(host, device, command, work)?;
+    report_line(alloc, n, refused.as_ref(), wanted, text)?;
     Ok(())
 }
 

@@ -1,13 +1,10 @@
-use Rattle.std.proofs.Common.{◌≡◌, refl, sym, ap, subst, ◌∙◌}
-use Rattle.cut_places.specs.MachineModel.Machine.{Machine}
+use Rattle.std.proofs.Common.{sym, ap, subst, ◌∙◌}
 use Rattle.cut_places.specs.Outcomes.Finds.{armed}
-use Rattle.cut_places.specs.Outcomes.Seen.{may_show}
 use Rattle.cut_places.specs.AskedReads.Asking.{may_be_replies}
 use Rattle.cut_places.specs.AskedReads.Program.{inputs_of_lines}
 use Rattle.cut_places.specs.Following.{Follows}
-use Rattle.cut_places.specs.Places.{cut_places, first_stop}
+use Rattle.cut_places.specs.Places.{cut_places}
 use Rattle.cut_places.proofs.WithinLemmas.{found_nowhere}
-use Rattle.explorer.specs.Finding.{IsFound}
 use Rattle.explorer.specs.Leading.{led_through}
 use Rattle.explorer.proofs.FoundLemmas.{found_armed, nothing_found}
 use Rattle.explorer.proofs.LedLemmas.{armed_led, geometry_led}
@@ -24,5 +21,5 @@ pub returns-clause-found : goal.returns-clause-found
 returns-clause-found g c = λ h look stands begins is.
     let to = led_through (armed h) (inputs_of_lines c.args.first.now) in
     let follows = c.in_ok-watched.ensures.follows h stands begins in
-    found_armed look (inputs_of_lines c.args.program.now) to _ (armed_led h (inputs_of_lines c.args.first.now) c.requires.first)
-    (c.in_ok-follow.ensures to look (subst (λ geo. Follows c.in_ok-watched.watched.sight geo to) (sym c.geometry-geometry.ensures) follows.0) follows.1 is)
+    found_armed look (inputs_of_lines c.args.program.now) to c.in_ok-found.found (armed_led h (inputs_of_lines c.args.first.now) c.requires.first)
+    (c.in_ok-found.ensures to look (subst (λ geo. Follows c.in_ok-watched.watched.sight geo to) (sym c.geometry-geometry.ensures) follows.0) follows.1 is)

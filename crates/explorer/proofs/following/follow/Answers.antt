@@ -2,7 +2,8 @@ use Rattle.std.proofs.Common.{◌∙◌}
 use Rattle.script_text.specs.Action.{action_of}
 use Rattle.cut_places.proofs.StepLemmas.{whole_after, within_after}
 use Rattle.value_tables.proofs.PlaceLemmas.{of_after}
-use Rattle.explorer.proofs.FollowedLemmas.{follows_done, follows_refused, on_ok_all}
+use Rattle.explorer.proofs.FollowedLemmas.{follows_done, follows_refused}
+use Rattle.explorer.proofs.ResultLemmas.{on_ok_all}
 use Rattle.explorer.proofs.following.follow.Goals as goal
 
 pub returns-then-not-done-clause-follows : goal.returns-then-not-done-clause-follows
