@@ -6,6 +6,11 @@ pub mod CauseLemmas
 pub mod UntoldLemmas
 pub mod FoundLemmas
 pub mod LookingLemmas
+pub mod ResultLemmas
+pub mod FollowedLemmas
+pub mod LedLemmas
+pub mod WentLemmas
+pub mod ReportLemmas
 pub mod FileListLemmas
 pub mod NumberLemmas
 pub mod FileLookLemmas

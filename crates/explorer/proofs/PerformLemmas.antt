@@ -1,10 +1,11 @@
 -- A program that is performed: what came of its commands.
-use Rattle.std.proofs.Common.{◌≡◌, ◌≢◌, if◌then◌else◌, option_map, ℕ, ◌+◌, ◌<◌, ◌≤◌, zero, suc, Bool, true, false, Option, Some, None, List, [], ◌∷◌, ◌++◌, length, drop, get_or, IsTrue, refl, sym, ap, subst, ◌∙◌, arith, ne_eqb}
-use Rattle.std.specs.Option.{is_none}
+use Rattle.std.proofs.Common.{◌≡◌, ◌≢◌, if◌then◌else◌, option_map, ℕ, ◌+◌, ◌<◌, ◌≤◌, zero, suc, Bool, true, false, not, Option, Some, None, List, [], ◌∷◌, ◌++◌, length, drop, get_or, IsTrue, refl, sym, ap, subst, ◌∙◌, arith, ne_eqb}
+use Rattle.std.specs.Option.{is_none, is_some}
 use Rattle.std.proofs.lemmas.List.{append-nil, append_assoc, drop_all}
 use Rattle.line_device.specs.Device.{Device}
 use Rattle.nvm_model.specs.Blocks.{first_there}
-use Rattle.reply_text.specs.Answer.{Answer}
+use Rattle.reply_text.specs.Answer.{Answer, answer_of}
+use Rattle.reply_text.specs.declared.reply.Reply.{Reply}
 use Rattle.reply_text.specs.Answer.Answer.{Refused}
 use Rattle.reply_text.specs.declared.reply.Why.TheVariants as because
 use Rattle.script_text.specs.declared.command.Command.{Command}
@@ -27,7 +28,7 @@ use Rattle.cut_places.proofs.GoingLemmas.{at_line}
 use Rattle.cut_places.proofs.StepLemmas.{ready_after}
 use Rattle.explorer.specs.declared.came.Came.TheVariants as came_as
 use Rattle.explorer.specs.Coming.{came_of}
-use Rattle.explorer.specs.Performing.{IsDone, LineDone}
+use Rattle.explorer.specs.Performing.{IsAfter, LineDone}
 use Rattle.explorer.specs.Stopping.{NoneFell}
 use Rattle.explorer.proofs.ComesLemmas.{CameTo, came_to, was_done, was_refused}
 
@@ -58,23 +59,24 @@ ready_armed h ready = ready_after h (CutIn 1) ready refl (cut_in_allowed h 1 (λ
 led_on : (h : Machine) (action : Action) (o : Option Answer) → refusal h action ≡ o → led_to h (fate h action) ≡ led_to h (unless_refused h o ((meaning action).comes h))
 led_on h action o is = ap (λ x. led_to h (unless_refused h x ((meaning action).comes h))) is
 
-at_led : (h : Machine) (action : Action) (host : HostState) (d : Device) (is : Bool) (to : Machine) → led_to h (fate h action) ≡ to → is_none (refusal h action) ≡ is → Stands host d to → IsReady to → IsDone h action host d is
-at_led h action host d is to led told stands ready = record {
-  told = told;
-  stands = subst (Stands host d) (sym led) stands;
-  ready = subst IsReady (sym led) ready;
-}
+-- that state, and what refused the command
+abbrev pub WasAnswered : Machine → Action → HostState → Device → Option Answer → Type 0
+WasAnswered h action host d refused = (refusal h action ≡ refused) × IsAfter h action host d
+
+at_led : (h : Machine) (action : Action) (host : HostState) (d : Device) (refused : Option Answer) (to : Machine) → led_to h (fate h action) ≡ to → refusal h action ≡ refused → Stands host d to → IsReady to
+    → WasAnswered h action host d refused
+at_led h action host d refused to led told stands ready = (told, record { stands = subst (Stands host d) (sym led) stands; ready = subst IsReady (sym led) ready })
 
 -- the program's own cut in no calls, and in some
-pub none_armed : (h : Machine) (calls : ℕ) (host : HostState) (d : Device) → calls ≡ 0 → Stands host d h → IsReady h → IsDone h (CutIn calls) host d false
+pub none_armed : (h : Machine) (calls : ℕ) (host : HostState) (d : Device) → calls ≡ 0 → Stands host d h → IsReady h → WasAnswered h (CutIn calls) host d (Some (Refused because.Range))
 none_armed h calls host d none stands ready =
     let refused = cut_in_refused h calls none in
-    at_led h (CutIn calls) host d false h (led_on h (CutIn calls) (Some (Refused because.Range)) refused) (ap is_none refused) stands ready
+    at_led h (CutIn calls) host d (Some (Refused because.Range)) h (led_on h (CutIn calls) (Some (Refused because.Range)) refused) refused stands ready
 
-pub some_armed : (h : Machine) (calls : ℕ) (host : HostState) (d : Device) → calls ≢ 0 → Stands host d (armed h) → IsReady h → IsDone h (CutIn calls) host d true
+pub some_armed : (h : Machine) (calls : ℕ) (host : HostState) (d : Device) → calls ≢ 0 → Stands host d (armed h) → IsReady h → WasAnswered h (CutIn calls) host d None
 some_armed h calls host d some stands ready =
     let allowed = cut_in_allowed h calls some in
-    at_led h (CutIn calls) host d true (armed h) (led_on h (CutIn calls) None allowed) (ap is_none allowed) stands (ready_armed h ready)
+    at_led h (CutIn calls) host d None (armed h) (led_on h (CutIn calls) None allowed) allowed stands (ready_armed h ready)
 
 -- a command that the host was asked for
 module _ (h : Machine) (action : Action) (answer : Answer) (host : HostState) (old new : Device) (program : IsTrue (is_of_program action)) (ready : IsReady h)
@@ -82,16 +84,27 @@ module _ (h : Machine) (action : Action) (answer : Answer) (host : HostState) (o
   came : CameTo h action answer comes.next
   came = came_to host h action answer old new program comes
 
-  pub was_not_done : came_as.Refused ≡ came_of answer → IsDone h action host new false
+  pub was_not_done : came_as.Refused ≡ came_of answer → WasAnswered h action host new (Some answer)
   was_not_done was =
       let why = was_refused h action answer comes.next came was in
-      at_led h action host new false h (led_on h action (Some answer) why.0) (ap is_none why.0) (subst (Stands host new) why.1 comes.stands) ready
+      at_led h action host new (Some answer) h (led_on h action (Some answer) why.0) why.0 (subst (Stands host new) why.1 comes.stands) ready
 
-  pub was_all_done : came_as.Done ≡ came_of answer → IsDone h action host new true
+  pub was_all_done : came_as.Done ≡ came_of answer → WasAnswered h action host new None
   was_all_done was =
       let done = was_done h action answer comes.next came was in
-      at_led h action host new true (led_to h ((meaning action).comes h)) (led_on h action None done.0) (ap is_none done.0)
+      at_led h action host new None (led_to h ((meaning action).comes h)) (led_on h action None done.0) done.0
       (subst (Stands host new) done.1 comes.stands) (ready_after h action ready program done.0)
+
+-- by the reply that refuses it
+pub none_mapped : (refused : Option Reply) → is_none (option_map answer_of refused) ≡ is_none refused
+none_mapped None = refl
+none_mapped (Some reply) = refl
+
+pub none_there : (refused : Option Reply) (b : Bool) → not b ≡ is_some refused → is_none refused ≡ b
+none_there None true is = refl
+none_there None false is = cc is
+none_there (Some reply) true is = cc is
+none_there (Some reply) false is = refl
 
 -- The lines before this one were performed: what is done of those behind it is told behind what was told.
 pub record Performs (program : List (Option Command)) (first : HostState) (begun : Device) (i : ℕ) (done : List Bool) (host : HostState) (d : Device) : Type 0 where
@@ -131,9 +144,9 @@ performs_on program first host next begun old new i done line is performs lt at 
         (to, came.0, came.1, λ rest behind. told_behind h program done rest is (told (is ∷ rest) (subst (λ xs. AreDone to xs (is ∷ rest)) (sym lines) behind)))
     by_line h to (Some command) lines came told = (
       led_to to (fate to (action_of command)),
-      came.stands,
-      came.ready,
-      λ rest behind. told_behind h program done rest is (told (is ∷ rest) (subst (λ xs. AreDone to xs (is ∷ rest)) (sym lines) (came.told, behind))),
+      came.1.stands,
+      came.1.ready,
+      λ rest behind. told_behind h program done rest is (told (is ∷ rest) (subst (λ xs. AreDone to xs (is ∷ rest)) (sym lines) (came.0, behind))),
     )
 
 pub performed : (program : List (Option Command)) (first host : HostState) (begun d : Device) (i : ℕ) (done : List Bool) → Performs program first begun i done host d → length program ≤ i

@@ -1,10 +1,13 @@
 pub mod Coming
 pub mod Starting
 pub mod Stopping
+pub mod Leading
 pub mod Performing
 pub mod Finding
 pub mod Tabulating
 pub mod Files
+pub mod Reporting
+pub mod Worked
 pub use Rattle.cut_places.specs.AskedReads
 pub use Rattle.cut_places.specs as CutPlaces
 pub use Rattle.cut_places.specs.Durable

@@ -9,13 +9,12 @@ use Rattle.machine_host.specs.Stands.{HostState, Stands}
 use Rattle.cut_places.specs.Outcomes.Finds.{IsReady}
 use Rattle.cut_places.specs.Outcomes.Stops.{led_to}
 
--- whether it was done in that state, and that host and device stand for the state behind it, in which nothing is interrupted
-pub record IsDone (h : Machine) (action : Action) (host : HostState) (d : Device) (is : Bool) : Type 0 where
-  pub told : is_none (refusal h action) ≡ is
+-- host and device stand for the state after a command, in which nothing is interrupted
+pub record IsAfter (h : Machine) (action : Action) (host : HostState) (d : Device) : Type 0 where
   pub stands : Stands host d (led_to h (fate h action))
   pub ready : IsReady (led_to h (fate h action))
 
--- the same of a line, of which nothing comes where it has no command
+-- that of a line, and whether it was done, of which nothing comes where it has no command
 abbrev pub LineDone : Machine → Option Command → HostState → Device → Bool → Type 0
 LineDone h None host d is = Stands host d h × IsReady h
-LineDone h (Some command) host d is = IsDone h (action_of command) host d is
+LineDone h (Some command) host d is = (is_none (refusal h (action_of command)) ≡ is) × IsAfter h (action_of command) host d

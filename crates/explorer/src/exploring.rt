@@ -6,6 +6,7 @@ ghost use Rattle.word_tables.specs.Bounds.{IsValid};
 ghost use Rattle.cut_places.specs.MachineModel.Machine.{Machine};
 ghost use Rattle.machine_host.specs.Settling.{GoesOn};
 ghost use Rattle.machine_host.specs.Stands.{Stands};
+ghost use Rattle.cut_places.specs.Outcomes.Finds.{armed};
 ghost use Rattle.cut_places.specs.Outcomes.Seen.{Seen, may_show};
 ghost use Rattle.cut_places.specs.Outcomes.Stops.{IsProgram};
 ghost use Rattle.cut_places.specs.AskedReads.Asking.{IsLook, may_be_replies};
@@ -13,6 +14,7 @@ ghost use Rattle.cut_places.specs.AskedReads.Program.{IsBounded, inputs_of_lines
 ghost use Rattle.cut_places.specs.Following.{AreDone, Follows, IsWhole, IsWithin};
 ghost use Rattle.cut_places.specs.Places.{cut_places, first_stop, found_stop};
 ghost use Rattle.explorer.specs.Finding.{IsFound, IsOn, inside_at};
+ghost use Rattle.explorer.specs.Leading.{led_through};
 ghost use Rattle.explorer.specs.Starting.{Begins};
 ghost use Rattle.explorer.specs.Stopping.{DeviceStopped, NoneFell};
 
@@ -30,19 +32,23 @@ use witnesses::keep;
 use word_tables::Geometry;
 
 /// The first place of a cut in the program after which the question's look may show what it asks for, with what may be kept there;
-/// None where no cut leaves it. A line of the program without a command is None.
+/// None where no cut leaves it. The first lines are performed before, and no cut in them is asked about. A line without a command is
+/// None.
 pub fn explore<D: LineDevice>(
     alloc: Global,
     host: &mut Host,
     device: &mut D,
+    first: &[Option<Command>],
     program: &[Option<Command>],
     question: &Question,
 ) -> Result<Option<Found>, ExploreFault>
     requires known { GoesOn host.old (D.state device.old) }
+    requires first { IsProgram (inputs_of_lines first.now) }
+    requires first_bounded { All IsBounded first.now }
     requires program { IsProgram (inputs_of_lines program.now) }
     requires bounded { All IsBounded program.now }
     ensures found { (h : Machine) (look : List Seen) → Stands host.old (D.state device.old) h → Begins h → IsLook look question.now
-        → IfOk result (IsFound look (found_stop h (inputs_of_lines program.now) look)) }
+        → IfOk result (IsFound look (found_stop (led_through (armed h) (inputs_of_lines first.now)) (inputs_of_lines program.now) look)) }
     ensures counts { OnOk result (NoneFell (D.state device.old).panel (D.state device.new).panel) }
     ensures cause { (h : Machine) → Stands host.old (D.state device.old) h → Begins h
         → IfErr result (λ fault. fault ≡ ExploreFault.Device → DeviceStopped (D.state device.old).panel (D.state device.new).panel) }
@@ -51,8 +57,9 @@ pub fn explore<D: LineDevice>(
     if !may_be_replies(question, geometry) {
         return Ok(None);
     }
-    let watched = watch(alloc, host, device, program, question)?;
-    Ok(follow(alloc, program, question, geometry, watched)?)
+    let watched = watch(alloc, host, device, first, program, question)?;
+    let found = follow(alloc, program, question, geometry, watched)?;
+    Ok(found)
 }
 
 // What is found, in what was looked at.

@@ -1,7 +1,9 @@
 // A program is performed on the device, to learn which of its commands are done.
-ghost use Rattle.std.specs.Prelude.{◌≡◌, [], ◌∷◌, All, IfErr, IfOk, IsTrue, OnOk, length};
+ghost use Rattle.std.specs.Prelude.{◌≡◌, ℕ, List, [], ◌∷◌, All, IfErr, IfOk, IfSome, IsTrue, OnOk, is_none, length, option_map};
+ghost use Rattle.reply_text.specs.Answer.{IsPrintable, answer_of};
 ghost use Rattle.script_text.specs.Action.{action_of};
 ghost use Rattle.script_text.specs.Parsing.{InBounds};
+ghost use Rattle.cut_places.specs.MachineModel.Commands.{refusal};
 ghost use Rattle.cut_places.specs.MachineModel.Machine.{Machine};
 ghost use Rattle.machine_host.specs.Settling.{GoesOn};
 ghost use Rattle.machine_host.specs.Stands.{Stands};
@@ -9,13 +11,16 @@ ghost use Rattle.cut_places.specs.Outcomes.Finds.{IsReady, armed};
 ghost use Rattle.cut_places.specs.Outcomes.Stops.{IsProgram, is_of_program};
 ghost use Rattle.cut_places.specs.AskedReads.Program.{IsBounded, input_of, inputs_of_lines};
 ghost use Rattle.cut_places.specs.Following.{AreDone};
-ghost use Rattle.explorer.specs.Performing.{IsDone, LineDone};
+ghost use Rattle.machine_host.specs.Responding.{outcome_answer};
+ghost use Rattle.explorer.specs.Coming.{came_of};
+ghost use Rattle.explorer.specs.Performing.{IsAfter, LineDone};
 ghost use Rattle.explorer.specs.Stopping.{DeviceStopped, NoneFell};
 
 use crate::came::Came;
 use crate::fault::ExploreFault;
 use line_device::LineDevice;
-use machine_host::Host;
+use machine_host::{Host, Outcome};
+use reply_text::{Reply, Why};
 use script_text::Command;
 use std::alloc::{AllocError, Global};
 
@@ -68,8 +73,8 @@ fn line_done<D: LineDevice>(
     }
 }
 
-// Performs a command, and tells whether it was done.
-fn is_done<D: LineDevice>(
+/// Performs a command, and reports whether it is done.
+pub fn is_done<D: LineDevice>(
     host: &mut Host,
     device: &mut D,
     command: &Command,
@@ -80,7 +85,29 @@ fn is_done<D: LineDevice>(
     requires program { IsTrue (is_of_program (action_of command.now)) }
     requires bounded { InBounds (action_of command.now) }
     ensures done { (h : Machine) → Stands host.old (D.state device.old) h → IsReady h
-        → IfOk result (IsDone h (action_of command.now) host.new (D.state device.new)) }
+        → IfOk result (λ is. (is_none (refusal h (action_of command.now)) ≡ is) × IsAfter h (action_of command.now) host.new (D.state device.new)) }
+    ensures known { OnOk result (GoesOn host.new (D.state device.new)) }
+    ensures counts { OnOk result (NoneFell (D.state device.old).panel (D.state device.new).panel) }
+    ensures cause { IfErr result (λ fault. fault ≡ ExploreFault.Device → DeviceStopped (D.state device.old).panel (D.state device.new).panel) }
+{
+    let refused = refusal_of(host, device, command, work)?;
+    Ok(refused.is_none())
+}
+
+/// Performs a command: the reply that refuses it, None where it is done.
+pub fn refusal_of<D: LineDevice>(
+    host: &mut Host,
+    device: &mut D,
+    command: &Command,
+    work: &mut [u8],
+) -> Result<Option<Reply>, ExploreFault>
+    requires known { GoesOn host.old (D.state device.old) }
+    requires wide { length work.old ≡ 65536 }
+    requires program { IsTrue (is_of_program (action_of command.now)) }
+    requires bounded { InBounds (action_of command.now) }
+    ensures done { (h : Machine) → Stands host.old (D.state device.old) h → IsReady h
+        → IfOk result (λ refused. (refusal h (action_of command.now) ≡ option_map answer_of refused) × IsAfter h (action_of command.now) host.new (D.state device.new)) }
+    ensures printable { IfOk result (λ refused. IfSome refused (λ reply. IsPrintable (answer_of reply))) }
     ensures known { OnOk result (GoesOn host.new (D.state device.new)) }
     ensures counts { OnOk result (NoneFell (D.state device.old).panel (D.state device.new).panel) }
     ensures cause { IfErr result (λ fault. fault ≡ ExploreFault.Device → DeviceStopped (D.state device.old).panel (D.state device.new).panel) }
@@ -88,15 +115,25 @@ fn is_done<D: LineDevice>(
     // The program's own cut in some calls is one of those that are asked about.
     if let Command::CutIn { calls } = command {
         if *calls == 0 {
-            return Ok(false);
+            return Ok(Some(Reply::Refused(Why::Range)));
         }
         arm(host, device, work)?;
-        return Ok(true);
+        return Ok(None);
     }
-    match Came::of(&host.answer(device, command, work)?) {
-        Came::Done => Ok(true),
-        Came::Refused => Ok(false),
+    let outcome = host.answer(device, command, work)?;
+    match Came::of(&outcome) {
+        Came::Done => Ok(None),
+        Came::Refused => Ok(reply_in(outcome)),
         Came::Stopped => Err(ExploreFault::Device),
+    }
+}
+
+fn reply_in(outcome: Outcome) -> Option<Reply>
+    ensures { (work : List ℕ) → Came.Refused ≡ came_of (outcome_answer work outcome) → option_map answer_of result ≡ Some (outcome_answer work outcome) }
+{
+    match outcome {
+        Outcome::Read(_) => None,
+        Outcome::Reply(reply) => Some(reply),
     }
 }
 

@@ -18,35 +18,6 @@ use Rattle.explorer.specs.SightsSeen.Units.{block_once_done, line_once_done}
 use Rattle.explorer.proofs.SightsSeen.SizeLemmas.{geometry_stays}
 use Rattle.outcome_lists.proofs.MappedLemmas.{suc_is}
 
--- what is looked at once a command is done, or refused
-pub follows_done : (now after : Sight) (geo : Geometry) (h : Machine) (action : Action) → Follows now geo h → IsWithin now geo → is_none (refusal h action) ≡ true
-    → IsTrue (is_of_program action)
-    → after.lines.items ≡ map (line_once_done geo action) now.lines.items → after.blocks.items ≡ map (block_once_done geo action) now.blocks.items
-    → after.files ≡ files_once_done action now.files → Follows after geo (led_to h (fate h action))
-follows_done now after geo h action follows within done program lines blocks files =
-    subst (Follows after geo) (sym (ap (λ o. led_to h (unless_refused h o ((meaning action).comes h))) allowed)) (record {
-      ready = ready_after h action follows.ready program allowed;
-      sizes = geometry_stays h action ∙ follows.sizes;
-      sees = sees_after h action now after allowed follows.ready follows.sees (subst (IsWithin now) (sym follows.sizes) within)
-          (lines ∙ ap (λ sizes. map (line_once_done sizes action) now.lines.items) (sym follows.sizes))
-          (blocks ∙ ap (λ sizes. map (block_once_done sizes action) now.blocks.items) (sym follows.sizes)) files;
-    })
-  where
-    none_is : (o : Option Answer) → is_none o ≡ true → o ≡ None
-    none_is None none = refl
-    none_is (Some why) none = cc none
-
-    allowed : refusal h action ≡ None
-    allowed = none_is (refusal h action) done
-
-pub follows_refused : (now : Sight) (geo : Geometry) (h : Machine) (action : Action) → Follows now geo h → is_none (refusal h action) ≡ false
-    → Follows now geo (led_to h (fate h action))
-follows_refused now geo h action follows refused = by_refusal (refusal h action) refused
-  where
-    by_refusal : (o : Option Answer) → is_none o ≡ false → Follows now geo (led_to h (unless_refused h o ((meaning action).comes h)))
-    by_refusal None none = cc none
-    by_refusal (Some why) none = follows
-
 -- The state before a line, which is followed; so much is told of it and of the lines from this one on.
 pub record Reaches (program : List (Option Command)) (done : List Bool) (geo : Geometry) (i : ℕ) (now : Sight) (Told : Machine → List (Option Command) → Type 0) : Type 0 where
   pub to : Machine

@@ -34,6 +34,7 @@ use Rattle.outcome_lists.specs.Outcomes.{Asked, Outcome, and_seen, begun, grown,
 use Rattle.outcome_lists.proofs.BitsLemmas.{Are64}
 use Rattle.outcome_lists.proofs.StateBitsLemmas.{of_64_bits}
 use Rattle.explorer.specs.Durable.Durable.{BringBytes}
+use Rattle.explorer.specs.Leading.{led_through}
 use Rattle.explorer.specs.Starting.{AreDurable, HaveDurable}
 use Rattle.outcome_lists.proofs.LookLemmas.{blocks_back, files_back, volume_back}
 use Rattle.outcome_lists.proofs.PairLemmas.{Differ, all_joined, all_made, all_once, pairs_joined, pairs_made, pairs_told}
@@ -259,8 +260,10 @@ module _ (at : List Seen → Option CutPlace) where
       all_parts_once hs parts (grown at os (choices hs part)) small.1
       (grown_once (kind_of_part part) os (choices hs part) (choices_kind hs part) (choices_apart hs part small.0) once)
 
-pub stand_once : (h : Machine) (program : List Input) (parts : List Read) → AreDurable h.volume → HaveDurable h.files → BringBytes program → StandOnce (outcomes_of h program parts)
-stand_once h program parts volume files small =
-    let at = place_of (cut_places 1 h program) in
-    pairs_told AskApart (λ o other. Differ (look_of o.asked) (look_of other.asked)) (λ o other apart same. apart (same_look o.asked other.asked same)) (outcomes_of h program parts)
-    (all_parts_once at (states h program) parts (begun at) (of_64_bits h program parts volume files small) (one_found at nothing [] (at (look_of nothing))))
+pub stand_once : (h : Machine) (first program : List Input) (parts : List Read) → AreDurable h.volume → HaveDurable h.files → BringBytes first → BringBytes program
+    → StandOnce (outcomes_of (led_through h first) program parts)
+stand_once h first program parts volume files led small =
+    let to = led_through h first in
+    let at = place_of (cut_places 1 to program) in
+    pairs_told AskApart (λ o other. Differ (look_of o.asked) (look_of other.asked)) (λ o other apart same. apart (same_look o.asked other.asked same)) (outcomes_of to program parts)
+    (all_parts_once at (states to program) parts (begun at) (of_64_bits h first program parts volume files led small) (one_found at nothing [] (at (look_of nothing))))

@@ -27,6 +27,7 @@ use Rattle.explorer.specs.SightsSeen.Seeing.{or_zeros, seen}
 use Rattle.explorer.specs.ValueTables.Left.{FileSide, file_side, side_of}
 use Rattle.explorer.specs.ValueTables.Left.FileSide.{NoFile, PastEnd, OfLine}
 use Rattle.explorer.specs.ValueTables.Values.{cells_of, history_of, values_with, with_all, with_one}
+use Rattle.explorer.specs.Leading.{led_through}
 use Rattle.explorer.specs.Starting.{AreDurable, HaveDurable}
 use Rattle.outcome_lists.specs.Choices.{states, values_through}
 use Rattle.explorer.proofs.Outcomes.FileHistoryLemmas.{FilesHold, files_after_hold, item_of}
@@ -94,6 +95,13 @@ states_have (Skipped ∷ inputs) h small has = states_have inputs h small has
 states_have (Malformed ∷ inputs) h small has = states_have inputs h small has
 states_have (Overlong ∷ inputs) h small has = states_have inputs h small has
 states_have (Asked action ∷ inputs) h small has = (has, states_have inputs (led_to h (fate h action)) small.1 (next h action small.0 has))
+
+led_has : (inputs : List Input) (h : Machine) → BringBytes inputs → StateHasBits h → StateHasBits (led_through h inputs)
+led_has [] h small has = has
+led_has (Skipped ∷ inputs) h small has = led_has inputs h small has
+led_has (Malformed ∷ inputs) h small has = led_has inputs h small has
+led_has (Overlong ∷ inputs) h small has = led_has inputs h small has
+led_has (Asked action ∷ inputs) h small has = led_has inputs (led_to h (fate h action)) small.1 (next h action small.0 has)
 
 -- a word of a line that has them, as a list of its values
 seen_bits : (pages : List Page) (n : ℕ) → HaveBits pages → HasBits (seen pages n)
@@ -188,7 +196,9 @@ files_begin : (files : List File) → HaveDurable files → AllHaveBits files
 files_begin [] durable = tt
 files_begin (file ∷ files) durable = (pages_begin file.pages durable.0, files_begin files durable.1)
 
-pub of_64_bits : (h : Machine) (program : List Input) (parts : List Read) → AreDurable h.volume → HaveDurable h.files → BringBytes program
-    → AllByRecursion (λ part. Are64 (values_through part [] (states h program))) parts
-of_64_bits h program parts volume files small =
-    parts_bits (states h program) parts (states_have program h small (record { volume = pages_begin h.volume volume; files = files_begin h.files files }))
+pub of_64_bits : (h : Machine) (first program : List Input) (parts : List Read) → AreDurable h.volume → HaveDurable h.files → BringBytes first → BringBytes program
+    → AllByRecursion (λ part. Are64 (values_through part [] (states (led_through h first) program))) parts
+of_64_bits h first program parts volume files led small =
+    let to = led_through h first in
+    parts_bits (states to program) parts
+    (states_have program to small (led_has first h led (record { volume = pages_begin h.volume volume; files = files_begin h.files files })))

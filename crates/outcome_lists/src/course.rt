@@ -1,14 +1,7 @@
 // A program that was performed, with what is looked at as it was before.
-ghost use Rattle.std.specs.Prelude.{◌≡◌, ◌∷◌, [], IfOk, IsTrue, List, OnOk, is_none};
-ghost use Rattle.script_text.specs.Action.{action_of};
-ghost use Rattle.script_text.specs.Parsing.{InBounds};
-ghost use Rattle.word_tables.specs.Bounds.{IsValid};
-ghost use Rattle.explorer.specs.MachineModel.Commands.{fate, refusal};
+ghost use Rattle.std.specs.Prelude.{◌≡◌, ◌∷◌, [], IfOk};
 ghost use Rattle.explorer.specs.MachineModel.Machine.{Machine};
-ghost use Rattle.explorer.specs.Outcomes.Stops.{is_of_program, led_to};
-ghost use Rattle.explorer.specs.AskedReads.declared.question.Question.{Question};
-ghost use Rattle.explorer.specs.AskedReads.declared.read.Read.{Read as Reading};
-ghost use Rattle.explorer.specs.CutPlaces.Following.{Follows, IsWhole};
+ghost use Rattle.explorer.specs.CutPlaces.Following.{Follows};
 ghost use Rattle.explorer.specs.ValueTables.Looking.{IsOf};
 ghost use Rattle.outcome_lists.specs.Courses.{IsAt};
 ghost use Rattle.outcome_lists.specs.Parts.{IsPart};
@@ -76,26 +69,4 @@ pub fn sight_of(
         blocks: copied(alloc, blocks)?,
         files: files.duplicate()?,
     })
-}
-
-/// Sight from before a command to after it: it changes where the command is done.
-pub fn follow(
-    geometry: Geometry,
-    command: &Command,
-    done: bool,
-    sight: &mut Sight,
-) -> Result<(), AllocError>
-    requires valid { IsValid geometry }
-    requires program { IsTrue (is_of_program (action_of command.now)) }
-    requires bounded { InBounds (action_of command.now) }
-    requires looks { (look : List Reading) × IsOf sight.old geometry look }
-    ensures follows { (h : Machine) → Follows sight.old geometry h → is_none (refusal h (action_of command.now)) ≡ done
-        → OnOk result (Follows sight.new geometry (led_to h (fate h (action_of command.now)))) }
-    ensures looks { (look : List Reading) → IsOf sight.old geometry look → OnOk result (IsOf sight.new geometry look) }
-    ensures whole { (question : Question) → IsWhole sight.old question → OnOk result (IsWhole sight.new question) }
-{
-    if !done {
-        return Ok(());
-    }
-    sight.change(geometry, command)
 }

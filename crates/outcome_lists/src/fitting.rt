@@ -15,8 +15,9 @@ ghost use Rattle.outcome_lists.specs.Parts.{IsPart};
 
 use crate::choice::Choice;
 use crate::copies::bytes_copy;
-use crate::course::{Course, follow};
+use crate::course::Course;
 use crate::passed::Passed;
+use explorer::follow;
 use explorer::places::Sight;
 use explorer::reads_asked::{Question, Read};
 use explorer::sights_seen::may_be_replies;

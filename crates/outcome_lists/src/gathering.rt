@@ -8,8 +8,9 @@ ghost use Rattle.explorer.specs.ValueTables.Rows.{read_refusal};
 ghost use Rattle.outcome_lists.specs.Choices.{sights_through, states, values_through};
 ghost use Rattle.outcome_lists.specs.Courses.{IsCourse};
 
-use crate::course::{Course, follow};
+use crate::course::Course;
 use crate::gathered::Gathered;
+use explorer::follow;
 use explorer::places::Sight;
 use explorer::reads_asked::Read;
 use std::alloc::{AllocError, Global};

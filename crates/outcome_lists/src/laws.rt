@@ -12,6 +12,7 @@ ghost use Rattle.explorer.specs.AskedReads.declared.read.Read.{Read};
 ghost use Rattle.explorer.specs.AskedReads.declared.read.Read.TheVariants.{Volume, Blocks, File};
 ghost use Rattle.explorer.specs.CutPlaces.Places.{Stop, cut_places};
 ghost use Rattle.explorer.specs.ValueTables.Listed.{IsSized, IsSound, block_read, file_word_read, lists_bytes, lists_sight, reply_of, word_read};
+ghost use Rattle.explorer.specs.Leading.{led_through};
 ghost use Rattle.explorer.specs.Starting.{AreDurable, HaveDurable};
 ghost use Rattle.outcome_lists.specs.Choices.{sights_through, states, values_through};
 ghost use Rattle.outcome_lists.specs.Listing.{IsFound, StandOnce};
@@ -32,11 +33,11 @@ pub fn each_outcome_is_listed()
     ensures { (h : Machine) (program : List Input) (parts : List Read) (o : Outcome) → IsFound h program parts o → Contains (outcomes_of h program parts) o }
 {}
 
-/// No outcome stands twice in a list, so that its length is how many there are: where what the program begins in is durable, as in an
-/// image that was opened, and what its commands bring are bytes.
+/// No outcome stands twice in a list, so that its length is how many there are: of a program behind first lines that begin where all
+/// is durable, as in an image that was opened, and where what the commands bring are bytes.
 pub fn no_outcome_stands_twice()
-    ensures { (h : Machine) (program : List Input) (parts : List Read) → AreDurable h.volume → HaveDurable h.files → BringBytes program
-        → StandOnce (outcomes_of h program parts) }
+    ensures { (h : Machine) (first program : List Input) (parts : List Read) → AreDurable h.volume → HaveDurable h.files
+        → BringBytes first → BringBytes program → StandOnce (outcomes_of (led_through h first) program parts) }
 {}
 
 /// Whatever some place may show of a word or of a block alone is one of its choices: the word has that value, or the block is seen

@@ -6,6 +6,7 @@ ghost use Rattle.explorer.specs.MachineHost.Stands.{Stands};
 ghost use Rattle.explorer.specs.Outcomes.Finds.{armed};
 ghost use Rattle.explorer.specs.Outcomes.Stops.{IsProgram};
 ghost use Rattle.explorer.specs.AskedReads.Program.{IsBounded, inputs_of_lines};
+ghost use Rattle.explorer.specs.Leading.{led_through};
 ghost use Rattle.explorer.specs.Starting.{Begins};
 ghost use Rattle.explorer.specs.Stopping.{DeviceStopped, NoneFell};
 ghost use Rattle.explorer.specs.ValueTables.Listed.{IsSound};
@@ -28,19 +29,22 @@ use nvm_base::Bytes;
 use script_text::Command;
 use std::alloc::{AllocError, Global};
 
-/// The list of what the reads may find, as it is printed.
+/// The list of what the reads may find, as it is printed, of the program behind the first lines, which are performed before.
 pub fn list_outcomes<D: LineDevice>(
     alloc: Global,
     host: &mut Host,
     device: &mut D,
+    first: &[Option<Command>],
     program: &[Option<Command>],
     reads: &[Read],
 ) -> Result<Bytes, ExploreFault>
     requires known { GoesOn host.old (D.state device.old) }
+    requires first { IsProgram (inputs_of_lines first.now) }
+    requires first_bounded { All IsBounded first.now }
     requires program { IsProgram (inputs_of_lines program.now) }
     requires bounded { All IsBounded program.now }
     ensures text { (h : Machine) → Stands host.old (D.state device.old) h → Begins h
-        → IfOk result (λ list. list.items ≡ outcome_list (armed h) (inputs_of_lines program.now) reads.now) }
+        → IfOk result (λ list. list.items ≡ outcome_list (led_through (armed h) (inputs_of_lines first.now)) (inputs_of_lines program.now) reads.now) }
     ensures counts { OnOk result (NoneFell (D.state device.old).panel (D.state device.new).panel) }
     ensures cause { (h : Machine) → Stands host.old (D.state device.old) h → Begins h
         → IfErr result (λ fault. fault ≡ ExploreFault.Device → DeviceStopped (D.state device.old).panel (D.state device.new).panel) }
@@ -48,7 +52,7 @@ pub fn list_outcomes<D: LineDevice>(
     let geometry = host.geometry();
     let parts = parts_of(alloc, geometry, reads)?;
     let question = look_at(alloc, geometry, &parts)?;
-    let Watched { sight, done } = watch(alloc, host, device, program, &question)?;
+    let Watched { sight, done } = watch(alloc, host, device, first, program, &question)?;
     let course = Course {
         program,
         done: &done,

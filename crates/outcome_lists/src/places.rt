@@ -8,9 +8,10 @@ ghost use Rattle.outcome_lists.specs.Courses.{IsCourse, IsFrom};
 ghost use Rattle.outcome_lists.specs.Levels.{before_place, inside_places, places};
 ghost use Rattle.outcome_lists.specs.Mixing.{ways_inside};
 
-use crate::course::{Course, follow, sight_of};
+use crate::course::{Course, sight_of};
 use crate::place::Place;
 use crate::ways::Ways;
+use explorer::follow;
 use explorer::places::{CutPlace, FilesSeen};
 use outcome_walk::Rows;
 use script_text::Command;

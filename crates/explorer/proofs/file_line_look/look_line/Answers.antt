@@ -1,6 +1,5 @@
 use Rattle.std.proofs.Common.{◌≡◌, ◌≢◌, ◌*◌, ◌/◌, ◌<◌, ◌≤◌, List, ℕ, length, take, refl, sym, ap, rules, subst, ◌∙◌, arith}
 use Rattle.std.proofs.lemmas.List.{length-take-le}
-use Rattle.line_device.specs.Device.{Device}
 use Rattle.reply_text.specs.Answer.{answer_of}
 use Rattle.reply_text.specs.declared.reply.Reply.TheVariants as reply
 use Rattle.script_text.specs.Action.Action.{FRead}

@@ -1,4 +1,4 @@
-use Rattle.std.proofs.Common.{◌≡◌, ◌≢◌, rules, refl, ap, ◌∙◌}
+use Rattle.std.proofs.Common.{◌≢◌, rules, ap, ◌∙◌}
 use Rattle.nvm_base.specs.Stock.{Stock}
 use Rattle.nvm_base.specs.declared.files.FileEntry.{FileEntry}
 use Rattle.reply_text.specs.Answer.{answer_of}

@@ -4,7 +4,6 @@ use Rattle.cut_places.specs.Outcomes.Pages.{PageRead}
 use Rattle.cut_places.specs.Outcomes.Pages.PageReply.{Poison}
 use Rattle.cut_places.specs.AskedReads.Reads.{page_read}
 use Rattle.cut_places.specs.AskedReads.declared.question.Question.{Question}
-use Rattle.cut_places.specs.AskedReads.declared.read.Read.TheVariants as reads
 use Rattle.explorer.specs.Tabulating.{LooksAt}
 use Rattle.explorer.proofs.LookingLemmas.{looks-blocks, looks-file, looks-lines, looks-refused, of_none, of_some}
 use Rattle.explorer.proofs.looking.add.Goals as goal

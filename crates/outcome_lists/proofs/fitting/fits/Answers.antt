@@ -2,6 +2,7 @@ use Rattle.std.proofs.Common.{[], ◌∷◌, ◌++◌, ap, false, get_or, map, r
 use Rattle.explorer.specs.Outcomes.Seen.{may_show}
 use Rattle.explorer.specs.AskedReads.Program.{inputs_of_lines}
 use Rattle.explorer.proofs.CutPlaces.GoingLemmas.{program_at}
+use Rattle.explorer.proofs.ValueTables.WithinLemmas.{is_within}
 use Rattle.outcome_lists.specs.Asking.{asked}
 use Rattle.outcome_lists.specs.Choices.{states}
 use Rattle.outcome_lists.specs.Outcomes.{look_of}
@@ -28,8 +29,8 @@ pub follow-requires-clause-program : goal.follow-requires-clause-program
 follow-requires-clause-program c =
     program_at c.args.course.now.program.now c.loop-i.i c.in-Some.command c.line-item.result c.loop-i-test.true (sym c.in-Some.is ∙ c.line-item.is) c.requires.course.program
 
-pub follow-requires-clause-looks : goal.follow-requires-clause-looks
-follow-requires-clause-looks c = (c.args.part.now ∷ [], c.loop-i.invariant.looks)
+pub follow-requires-clause-within : goal.follow-requires-clause-within
+follow-requires-clause-within c = is_within c.loop-i.sight c.args.course.now.geometry (c.args.part.now ∷ []) c.loop-i.invariant.looks
 
 pub loop-i-preserved : goal.loop-i-preserved
 loop-i-preserved c =

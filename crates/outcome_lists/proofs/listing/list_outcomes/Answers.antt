@@ -4,7 +4,10 @@ use Rattle.explorer.specs.AskedReads.Asking.{files_asked}
 use Rattle.explorer.specs.CutPlaces.Following.{AreDone, Follows}
 use Rattle.explorer.specs.CutPlaces.SeesFiles.{is_held}
 use Rattle.explorer.specs.ValueTables.Looking.{blocks_looked_at, file_lines_looked_at, lines_looked_at}
+use Rattle.explorer.specs.Leading.{led_through}
+use Rattle.explorer.proofs.LedLemmas.{sound_led}
 use Rattle.explorer.proofs.LookingLemmas.{held_read}
+use Rattle.explorer.proofs.PerformLemmas.{ready_armed}
 use Rattle.word_tables.specs.declared.geometry.Geometry.{Geometry}
 use Rattle.explorer.specs.AskedReads.Program.{inputs_of_lines}
 use Rattle.explorer.specs.Outcomes.Finds.{armed}
@@ -29,11 +32,14 @@ list_text-requires-clause-looks g c =
 
 pub returns-clause-text : goal.returns-clause-text
 returns-clause-text g c = λ h stands begins.
+    let first = inputs_of_lines c.args.first.now in
     let inputs = inputs_of_lines c.args.program.now in
+    let to = led_through (armed h) first in
     let geo = c.geometry-geometry.result in
     let looked = c.in_ok-sight.ensures.follows h stands begins in
-    let follows = subst (λ (sizes : Geometry). Follows c.in_ok-sight.field-0.sight sizes (armed h)) (sym c.geometry-geometry.ensures) looked.0 in
-    let done = subst (λ told. AreDone (armed h) c.args.program.now told) (sym c.deref-2.ensures.value) looked.1 in
-    c.in_ok-list_text.ensures (armed h) (record { follows = follows; done = done }) (sound_begun h begins)
-    ∙ ap (λ parts. list_text (outcomes_of (armed h) inputs parts)) (c.deref-3.ensures.value ∙ c.in_ok-parts.ensures.parts)
-    ∙ ap (λ (sizes : Geometry). list_text (outcomes_of (armed h) inputs (parts_of sizes c.args.reads.now))) (sym follows.sizes)
+    let follows = subst (λ (sizes : Geometry). Follows c.in_ok-sight.field-0.sight sizes to) (sym c.geometry-geometry.ensures) looked.0 in
+    let done = subst (λ told. AreDone to c.args.program.now told) (sym c.deref-2.ensures.value) looked.1 in
+    let sound = sound_led (armed h) first c.requires.first (ready_armed h begins.ready) (sound_begun h begins) in
+    c.in_ok-list_text.ensures to (record { follows = follows; done = done }) sound
+    ∙ ap (λ parts. list_text (outcomes_of to inputs parts)) (c.deref-3.ensures.value ∙ c.in_ok-parts.ensures.parts)
+    ∙ ap (λ (sizes : Geometry). list_text (outcomes_of to inputs (parts_of sizes c.args.reads.now))) (sym follows.sizes)

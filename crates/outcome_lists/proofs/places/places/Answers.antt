@@ -1,5 +1,6 @@
 use Rattle.std.proofs.Common.{[], false, get_or, refl, sym, ◌+◌, ◌∙◌}
 use Rattle.explorer.proofs.CutPlaces.GoingLemmas.{program_at}
+use Rattle.explorer.proofs.ValueTables.WithinLemmas.{is_within}
 use Rattle.outcome_lists.proofs.PlaceLemmas.{all_found, files_alone, files_follow, found_first, found_on, found_past}
 use Rattle.outcome_lists.proofs.places.places.Goals.{in-Some+in_ok-add_places+in_ok-follow, in_default}
 use Rattle.outcome_lists.proofs.places.places.Goals as goal
@@ -14,8 +15,8 @@ pub follow-requires-clause-program : goal.follow-requires-clause-program
 follow-requires-clause-program c =
     program_at c.args.course.now.program.now c.loop-i.i c.in-Some.command c.line-item.result c.loop-i-test.true (sym c.in-Some.is ∙ c.line-item.is) c.requires.course.program
 
-pub follow-requires-clause-looks : goal.follow-requires-clause-looks
-follow-requires-clause-looks c = ([], c.loop-i.invariant.looks)
+pub follow-requires-clause-within : goal.follow-requires-clause-within
+follow-requires-clause-within c = is_within c.loop-i.seen c.args.course.now.geometry [] c.loop-i.invariant.looks
 
 pub loop-i-preserved : goal.loop-i-preserved
 loop-i-preserved c =

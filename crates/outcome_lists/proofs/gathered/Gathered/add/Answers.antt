@@ -7,7 +7,7 @@ use Rattle.explorer.specs.ValueTables.Sides.{side_at}
 use Rattle.explorer.specs.ValueTables.Values.{cells_of, history_of, values_with, with_all, with_one}
 use Rattle.outcome_lists.specs.Choices.{sights_through, values_through}
 use Rattle.outcome_lists.proofs.PartSeenLemmas.{first_block, first_line, gone, held_of_word, no_block, no_line, numbers_of_block, numbers_of_word, side_is, there}
-use Rattle.outcome_lists.proofs.ResultLemmas.{on_ok}
+use Rattle.explorer.proofs.ResultLemmas.{on_ok}
 use Rattle.outcome_lists.proofs.gathered.Gathered.add.Goals as goal
 
 pub returns-in-Some-clause-values : goal.returns-in-Some-clause-values

@@ -1,11 +1,10 @@
 use Rattle.std.proofs.Common.{◌∙◌}
 use Rattle.script_text.specs.Action.{action_of}
-use Rattle.explorer.proofs.CutPlaces.StepLemmas.{whole_after}
-use Rattle.explorer.proofs.ValueTables.PlaceLemmas.{of_after}
-use Rattle.explorer.proofs.ValueTables.WithinLemmas.{is_within}
-use Rattle.outcome_lists.proofs.ResultLemmas.{on_ok_all}
-use Rattle.outcome_lists.proofs.CourseLemmas.{follows_done, follows_refused}
-use Rattle.outcome_lists.proofs.course.follow.Goals as goal
+use Rattle.cut_places.proofs.StepLemmas.{whole_after, within_after}
+use Rattle.value_tables.proofs.PlaceLemmas.{of_after}
+use Rattle.explorer.proofs.FollowedLemmas.{follows_done, follows_refused}
+use Rattle.explorer.proofs.ResultLemmas.{on_ok_all}
+use Rattle.explorer.proofs.following.follow.Goals as goal
 
 pub returns-then-not-done-clause-follows : goal.returns-then-not-done-clause-follows
 returns-then-not-done-clause-follows c = λ h follows is. follows_refused c.args.sight.now c.args.geometry h (action_of c.args.command.now) follows (is ∙ c.if-not-done.true)
@@ -15,8 +14,13 @@ returns-clause-follows c = λ h follows is.
     let now = c.args.sight.now in
     let geo = c.args.geometry in
     on_ok_all c.change.result
-    (λ lines blocks files. follows_done now c.change.new.self geo h (action_of c.args.command.now) follows (is_within now geo c.requires.looks.0 c.requires.looks.1)
-    (is ∙ c.if-not-done.false) c.requires.program lines blocks files)
+    (λ lines blocks files. follows_done now c.change.new.self geo h (action_of c.args.command.now) follows c.requires.within (is ∙ c.if-not-done.false) c.requires.program lines blocks files)
+    c.change.ensures.lines c.change.ensures.blocks c.change.ensures.files
+
+pub returns-clause-within : goal.returns-clause-within
+returns-clause-within c =
+    on_ok_all c.change.result
+    (λ lines blocks files. within_after c.args.geometry c.args.geometry (action_of c.args.command.now) c.args.sight.now c.change.new.self c.requires.within lines blocks)
     c.change.ensures.lines c.change.ensures.blocks c.change.ensures.files
 
 pub returns-clause-looks : goal.returns-clause-looks
