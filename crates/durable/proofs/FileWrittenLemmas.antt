@@ -23,7 +23,7 @@ use Rattle.durable.specs.Durable.{BringsBytes, Does, Finishes, HaveLines, IsComp
 use Rattle.durable.proofs.LineLemmas.{MayBe, flush_shown, zero_shown}
 use Rattle.durable.proofs.FileLineLemmas.{LineFlushed}
 use Rattle.durable.proofs.FileKeepLemmas.{in_line}
-use Rattle.durable.proofs.CoverLemmas.{file-cleared, file_renewed, same_worn, was_bad_in}
+use Rattle.durable.proofs.CoverLemmas.{file-cleared, file_renewed, was_bad_in}
 use Rattle.durable.proofs.FileThereLemmas.{lines-named}
 use Rattle.durable.proofs.LawLemmas.{Came, covers_unharmed, done_by, durable, finished_durable, lasts_powered}
 use Rattle.durable.proofs.NamedPageLemmas.{named-own}
@@ -111,7 +111,7 @@ flushed_shown i byte old new flushed strong has = ap (λ o. line_has o (i % 64))
 
 -- a byte that a command kept, as it made it durable anew
 kept_anew : (h next : Machine) (action : Action) (name : List ℕ) (i : ℕ) (v : Option ℕ) → BringsBytes action → IsComplete h → byte_at_place h (of_file name i) ≡ v → Came h action next
-    → is_made_durable h action (of_file name i) ≡ true → (wears h action (of_file name i) ≡ false) × (changes action (of_file name i) ≡ false) → byte_at_place next (of_file name i) ≡ v
+    → is_made_durable h action (of_file name i) ≡ true → (wears h action (of_file name i) ≡ false) × (changes h.mappings action (of_file name i) ≡ false) → byte_at_place next (of_file name i) ≡ v
 kept_anew h next action name i v small whole has came covered anew =
     elim (byte-kept since (pages_named name next.files) i v
     (altered_place since h action next (of_file name i) v came.to (record {
@@ -119,8 +119,7 @@ kept_anew h next action name i v small whole has came covered anew =
       brings = small;
       poison = λ does. absurd (both_ways _ (covers_unharmed h action (of_file name i) covered) does);
       weaken = λ does. refl;
-      cover = λ worn weak.
-          absurd (both_ways _ anew.0 (and_from _ _ (sym (same_worn h action) ∙ (and_parts _ _ worn).0) covered));
+      cover = λ worn weak. absurd (both_ways _ anew.0 worn);
     }) (keeps_bytes h action came.none) old)) as (λ _. byte_at_place next (of_file name i) ≡ v) [
       | inl is ↦ is
       | inr lost ↦ cc lost.1

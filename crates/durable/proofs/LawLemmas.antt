@@ -5,6 +5,7 @@ use Rattle.line_words.specs.declared.interruption.Interruption.{Interruption}
 use Rattle.line_words.specs.declared.interruption.Interruption.TheVariants.{Failed, PowerLost as Lost}
 use Rattle.reply_text.specs.Answer.{Answer}
 use Rattle.reply_text.specs.Answer.Answer.{Done}
+use Rattle.nvm_model.specs.Storage.{Mapping}
 use Rattle.script_text.specs.Action.{Action}
 use Rattle.script_text.specs.Action.Action.{PoisonBlock, PoisonFile, PoisonMeta, PoisonVolume, Cut, CutIn, FailIn, Restart, Recover, Attr}
 use Rattle.script_text.specs.Script.{Input}
@@ -23,12 +24,15 @@ use Rattle.durable.proofs.PowerLemmas.{powered_first, powered_heard, powered_res
 use Rattle.durable.specs.Place.{Place, byte_at_place}
 use Rattle.durable.specs.Place.{is_weak_at}
 use Rattle.durable.specs.Place.Place.{of_volume, of_blocks, of_file}
-use Rattle.durable.specs.Touching.{changes, is_begun, is_made_durable, may_make_durable, may_wear, poisons, weakens, wears_out}
-use Rattle.durable.specs.Durable.{BringBytes, BringsBytes, Does, Finishes, HasNothing, IsComplete, IsDone, IsDurable, Lasts, LastsPowered, NoneBegun, Remains, Spares, StaysPowered}
+use Rattle.durable.specs.Region.{holds}
+use Rattle.durable.specs.Touching.{changes, is_begun, is_made_durable, poisons, weakens, wears_out, wears_with}
+use Rattle.durable.specs.Mapped.{Begun, but_for_copies, commands_begun, mappings_then}
+use Rattle.durable.specs.Durable.{BringBytes, BringsBytes, Does, Finishes, HasNothing, IsComplete, IsDone, IsDurable, Lasts, LastsPowered, Remains, Spares, StaysPowered}
 use Rattle.durable.proofs.StepKinds.{Alters, CoversNothing, Step}
 use Rattle.durable.proofs.SuitLemmas.{nowhere}
 use Rattle.durable.proofs.StepLemmas.{geometry_run, geometry_step, nothing_run, step_of}
 use Rattle.durable.proofs.StepKinds.Step.{idles, alters, stops, returns, remounts, empties}
+use Rattle.durable.proofs.MappedLemmas.{AreAlike, alike_then, changed_alike, durable_alike, mappings-heard, none-asked}
 use Rattle.durable.proofs.LineLemmas.{HasOrLost, MayBe}
 use Rattle.durable.proofs.VolumeLemmas.{there-kept}
 use Rattle.durable.proofs.SparedLemmas.{KeptBy, SparedBy, SparesPlace}
@@ -38,11 +42,6 @@ use Rattle.durable.proofs.ReadLemmas.{has}
 use Rattle.durable.proofs.RefusalLemmas.{is_on, refused_told}
 use Rattle.durable.proofs.RefusedAnswerLemmas.{is_refused}
 use Rattle.durable.proofs.WholeLemmas.{whole-heard, whole-run}
-
--- the answer of a first command, and those of the rest
-pub none-asked : (does : Action → Bool) (action : Action) (inputs : List Input) (first : Transcript) (answer : Answer) (answers : List Answer) → first.answers ≡ answer ∷ []
-    → NoneBegun does (Asked action ∷ inputs) (first.answers ++ answers) → (does action ≡ true → is_begun answer ≡ false) × NoneBegun does inputs answers
-none-asked does action inputs first answer answers is none = subst (λ s. NoneBegun does (Asked action ∷ inputs) (s ++ answers)) is none
 
 -- a command that covers something needs a machine that is on
 covers_usable : (h : Machine) (action : Action) (x : Place) → is_made_durable h action x ≡ true → (meaning action).needs ≡ Usable
@@ -119,48 +118,46 @@ pub done_by : (h next : Machine) (action : Action) (x : Place) → Finishes h ac
 done_by h next action x does covered = came_of h next action does (λ none. both_ways _ (none.bytes x) covered)
 
 -- no command does so to the place, or it may
-abbrev pub SparesOr : (Action → Place → Bool) → Type 0 → Place → List Input → List Answer → Type 0
-SparesOr does may x inputs answers = Spares does x inputs answers ⊎ may
+abbrev pub SparesOr : (List Mapping → Action → Place → Bool) → Type 0 → Place → List Begun → Type 0
+SparesOr does may x commands = Spares does x commands ⊎ may
 
-may-asked : (does : Action → Place → Bool) (may : Type 0) (action : Action) (inputs : List Input) (first : Transcript) (answer : Answer) (answers : List Answer) (x : Place)
-    → first.answers ≡ answer ∷ [] → SparesOr does may x (Asked action ∷ inputs) (first.answers ++ answers)
-    → (is_begun answer ≡ true → does action x ≡ true → may) × SparesOr does may x inputs answers
-may-asked does may action inputs first answer answers x is (inl spares) =
-    let each = none-asked (λ a. does a x) action inputs first answer answers is spares in
-    (λ begun did. absurd (both_ways (is_begun answer) (each.0 did) begun), inl each.1)
-may-asked does may action inputs first answer answers x is (inr so) = (λ begun did. so, inr so)
-
-pub not_done : (does : Bool) (answer : Answer) → (does ≡ true → is_begun answer ≡ false) → is_begun answer ≡ true → does ≡ false
-not_done true answer only begun = absurd (both_ways (is_begun answer) (only refl) begun)
-not_done false answer only begun = refl
+may-asked : (does : List Mapping → Action → Place → Bool) (may : Type 0) (mappings : List Mapping) (action : Action) (inputs : List Input) (first : Transcript) (answer : Answer) (answers : List Answer)
+    (x : Place) → first.answers ≡ answer ∷ [] → SparesOr does may x (commands_begun mappings (Asked action ∷ inputs) (first.answers ++ answers))
+    → (is_begun answer ≡ true → does mappings action x ≡ true → may) × SparesOr does may x (commands_begun (mappings_then mappings action answer) inputs answers)
+may-asked does may mappings action inputs first answer answers x is (inl spares) =
+    let each = none-asked (λ (c : Begun). does c.mappings c.action x) mappings action inputs first answer answers is spares in
+    (λ begun did. absurd (both_ways _ (each.0 begun) did), inl each.1)
+may-asked does may mappings action inputs first answer answers x is (inr so) = (λ begun did. so, inr so)
 
 -- no command changes the place, and its line becomes weak or lost only where it may
-abbrev pub Allowed : MayBe → Geometry → Place → List Input → List Answer → Type 0
-Allowed since geo x inputs answers =
-    Spares changes x inputs answers × SparesOr poisons (since.lost ≡ true) x inputs answers × SparesOr weakens (since.weak ≡ true) x inputs answers
-    × SparesOr (λ action y. wears_out (may_make_durable geo action) y) (since.weak ≡ true → since.lost ≡ true) x inputs answers
+abbrev pub Allowed : MayBe → Geometry → Place → List Begun → Type 0
+Allowed since geo x commands =
+    Spares changes x commands × SparesOr (λ mappings. poisons) (since.lost ≡ true) x commands × SparesOr (λ mappings. weakens) (since.weak ≡ true) x commands
+    × SparesOr (wears_with geo) (since.weak ≡ true → since.lost ≡ true) x commands
 
 module _ (since : MayBe) where
   -- of a first command, and of the rest
-  allowed-asked : (geo : Geometry) (action : Action) (inputs : List Input) (first : Transcript) (answer : Answer) (answers : List Answer) (x : Place) → BringsBytes action
-      → first.answers ≡ answer ∷ [] → Allowed since geo x (Asked action ∷ inputs) (first.answers ++ answers)
-      → (is_begun answer ≡ true → SparesPlace since geo action x) × Allowed since geo x inputs answers
-  allowed-asked geo action inputs first answer answers x small is all =
-      let change = none-asked (λ a. changes a x) action inputs first answer answers is all.0 in
-      let poison = may-asked poisons (since.lost ≡ true) action inputs first answer answers x is all.1 in
-      let weaken = may-asked weakens (since.weak ≡ true) action inputs first answer answers x is all.2 in
-      let cover =
-      may-asked (λ action y. wears_out (may_make_durable geo action) y) (since.weak ≡ true → since.lost ≡ true) action inputs first answer answers x is all.3 in (
-        λ begun.
-            record {
-              change = not_done (changes action x) answer change.0 begun;
-              brings = small;
-              poison = poison.0 begun;
-              weaken = weaken.0 begun;
-              cover = cover.0 begun;
-            },
+  allowed-asked : (geo : Geometry) (mappings : List Mapping) (action : Action) (inputs : List Input) (first : Transcript) (answer : Answer) (answers : List Answer) (x : Place) → BringsBytes action
+      → first.answers ≡ answer ∷ [] → Allowed since geo x (commands_begun mappings (Asked action ∷ inputs) (first.answers ++ answers))
+      → (is_begun answer ≡ true → SparesPlace since geo mappings action x) × Allowed since geo x (commands_begun (mappings_then mappings action answer) inputs answers)
+  allowed-asked geo mappings action inputs first answer answers x small is all =
+      let change = none-asked (λ (c : Begun). changes c.mappings c.action x) mappings action inputs first answer answers is all.0 in
+      let poison = may-asked (λ ms. poisons) (since.lost ≡ true) mappings action inputs first answer answers x is all.1 in
+      let weaken = may-asked (λ ms. weakens) (since.weak ≡ true) mappings action inputs first answer answers x is all.2 in
+      let cover = may-asked (wears_with geo) (since.weak ≡ true → since.lost ≡ true) mappings action inputs first answer answers x is all.3 in (
+        λ begun. record { change = change.0 begun; brings = small; poison = poison.0 begun; weaken = weaken.0 begun; cover = cover.0 begun },
         (change.1, poison.1, weaken.1, cover.1),
       )
+
+  -- what is the same of mappings that are alike
+  spares-alike : (geo : Geometry) (one other : List Mapping) (action : Action) (x : Place) → AreAlike one other → SparesPlace since geo other action x → SparesPlace since geo one action x
+  spares-alike geo one other action x alike spares = record {
+    change = ap (λ region. holds region x) (changed_alike action one other alike) ∙ spares.change;
+    brings = spares.brings;
+    poison = spares.poison;
+    weaken = spares.weaken;
+    cover = λ worn. spares.cover (sym (ap (λ covered. wears_out covered x) (durable_alike geo action one other alike)) ∙ worn);
+  }
 
   -- the power may be cut, or it is on and stays so
   abbrev Power : Machine → Transcript → Type 0
@@ -179,44 +176,74 @@ module _ (since : MayBe) where
   abbrev KeepsOr : Machine → Place → Option ℕ → Type 0
   KeepsOr h x v = Keeps since h x v ⊎ HasNothing h
 
-  keeps-heard : (input : Input) (inputs : List Input) (h next : Machine) (first : Transcript) (answers : List Answer) (x : Place) (v : Option ℕ) → BringBytes (input ∷ inputs)
-      → (h.mode ≡ Off → since.cut ≡ true)
-      → Hears h input first next → Allowed since h.geometry x (input ∷ inputs) (first.answers ++ answers) → Keeps since h x v
-      → KeepsOr next x v × Allowed since next.geometry x inputs answers × BringBytes inputs
-  keeps-heard Skipped inputs h next first answers x v bytes off heard all keeps = (
+  -- the mappings are those that were told, and the commands that are left are allowed
+  record Follows (h : Machine) (mappings : List Mapping) (x : Place) (inputs : List Input) (answers : List Answer) : Type 0 where
+    alike : AreAlike h.mappings mappings
+    allowed : Allowed since h.geometry x (commands_begun mappings inputs answers)
+    bytes : BringBytes inputs
+
+  keeps-heard : (input : Input) (inputs : List Input) (h next : Machine) (mappings : List Mapping) (first : Transcript) (answers : List Answer) (x : Place) (v : Option ℕ)
+      → (h.mode ≡ Off → since.cut ≡ true) → Hears h input first next → Follows h mappings x (input ∷ inputs) (first.answers ++ answers) → Keeps since h x v
+      → KeepsOr next x v × ((told : List Mapping) × Follows next told x inputs answers)
+  keeps-heard Skipped inputs h next mappings first answers x v off heard all keeps = (
     inl (subst (λ m. Keeps since m x v) (sym heard.1) keeps),
-    subst (λ m. Allowed since m.geometry x inputs answers) (sym heard.1) (subst (λ (s : Transcript). Allowed since h.geometry x inputs (s.answers ++ answers)) heard.0 all),
-    bytes,
+    (
+      mappings,
+      record {
+        alike = ap (λ (m : Machine). but_for_copies m.mappings) heard.1 ∙ all.alike;
+        allowed = subst (λ (m : Machine). Allowed since m.geometry x (commands_begun mappings inputs answers)) (sym heard.1)
+            (subst (λ (s : Transcript). Allowed since h.geometry x (commands_begun mappings inputs (s.answers ++ answers))) heard.0 all.allowed);
+        bytes = all.bytes;
+      },
+    ),
   )
-  keeps-heard Malformed inputs h next first answers x v bytes off heard all keeps = (
+  keeps-heard Malformed inputs h next mappings first answers x v off heard all keeps = (
     inl (subst (λ m. Keeps since m x v) (sym heard.1) keeps),
-    subst (λ m. Allowed since m.geometry x inputs answers) (sym heard.1)
-        (subst (λ (s : Transcript). Allowed since h.geometry x (Malformed ∷ inputs) (s.answers ++ answers)) heard.0 all),
-    bytes,
+    (
+      mappings,
+      record {
+        alike = ap (λ (m : Machine). but_for_copies m.mappings) heard.1 ∙ all.alike;
+        allowed = subst (λ (m : Machine). Allowed since m.geometry x (commands_begun mappings inputs answers)) (sym heard.1)
+            (subst (λ (s : Transcript). Allowed since h.geometry x (commands_begun mappings (Malformed ∷ inputs) (s.answers ++ answers))) heard.0 all.allowed);
+        bytes = all.bytes;
+      },
+    ),
   )
-  keeps-heard Overlong inputs h next first answers x v bytes off heard all keeps = (
+  keeps-heard Overlong inputs h next mappings first answers x v off heard all keeps = (
     inl (subst (λ m. Keeps since m x v) (sym heard.1) keeps),
-    subst (λ m. Allowed since m.geometry x inputs answers) (sym heard.1)
-        (subst (λ (s : Transcript). Allowed since h.geometry x (Overlong ∷ inputs) (s.answers ++ answers)) heard.0 all),
-    bytes,
+    (
+      mappings,
+      record {
+        alike = ap (λ (m : Machine). but_for_copies m.mappings) heard.1 ∙ all.alike;
+        allowed = subst (λ (m : Machine). Allowed since m.geometry x (commands_begun mappings inputs answers)) (sym heard.1)
+            (subst (λ (s : Transcript). Allowed since h.geometry x (commands_begun mappings (Overlong ∷ inputs) (s.answers ++ answers))) heard.0 all.allowed);
+        bytes = all.bytes;
+      },
+    ),
   )
-  keeps-heard (Asked action) inputs h next first answers x v bytes off heard all keeps =
+  keeps-heard (Asked action) inputs h next mappings first answers x v off heard all keeps =
       let taken = step_of h action first next heard in
-      let each = allowed-asked h.geometry action inputs first taken.answer answers x bytes.0 taken.answers all in (
-        keeps-step since h action taken.answer next x v bytes.0 each.0 off keeps taken.step,
-        subst (λ g. Allowed since g x inputs answers) (sym (geometry_step h action taken.answer next taken.step)) each.1,
-        bytes.1,
+      let each = allowed-asked h.geometry mappings action inputs first taken.answer answers x all.bytes.0 taken.answers all.allowed in (
+        keeps-step since h action taken.answer next x v all.bytes.0 (λ begun. spares-alike h.geometry h.mappings mappings action x all.alike (each.0 begun)) off keeps taken.step,
+        (
+          mappings_then mappings action taken.answer,
+          record {
+            alike = mappings-heard h next action first taken.answer taken.answers heard ∙ alike_then action taken.answer h.mappings mappings all.alike;
+            allowed = subst (λ g. Allowed since g x (commands_begun (mappings_then mappings action taken.answer) inputs answers)) (sym (geometry_step h action taken.answer next taken.step)) each.1;
+            bytes = all.bytes.1;
+          },
+        ),
       )
 
-  keeps-run : (inputs : List Input) (h later : Machine) (said : Transcript) (x : Place) (v : Option ℕ) → BringBytes inputs → Run h inputs said later → Power h said
-      → Allowed since h.geometry x inputs said.answers → KeepsOr h x v → KeepsOr later x v
-  keeps-run inputs h later said x v bytes run power all (inr nothing) = inr (nothing_run h later inputs said nothing run)
-  keeps-run [] h later said x v bytes run power all (inl keeps) = inl (subst (λ m. Keeps since m x v) (sym run.1) keeps)
-  keeps-run (input ∷ inputs) h later said x v bytes run power all (inl keeps) =
-      let split = subst (λ (s : Transcript). Allowed since h.geometry x (input ∷ inputs) s.answers) run.3 all in
+  keeps-run : (inputs : List Input) (h later : Machine) (mappings : List Mapping) (said : Transcript) (x : Place) (v : Option ℕ) → Run h inputs said later → Power h said
+      → Follows h mappings x inputs said.answers → KeepsOr h x v → KeepsOr later x v
+  keeps-run inputs h later mappings said x v run power all (inr nothing) = inr (nothing_run h later inputs said nothing run)
+  keeps-run [] h later mappings said x v run power all (inl keeps) = inl (subst (λ m. Keeps since m x v) (sym run.1) keeps)
+  keeps-run (input ∷ inputs) h later mappings said x v run power all (inl keeps) =
+      let split = subst (λ (s : Transcript). Follows h mappings x (input ∷ inputs) s.answers) run.3 all in
       let on = subst (Power h) run.3 power in
-      let heard = keeps-heard input inputs h run.2 run.0 run.1.answers x v bytes (power_off h (followed_by run.0 run.1) on) run.4 split keeps in
-      keeps-run inputs run.2 later run.1 x v heard.2 run.5 (power_next h run.2 input run.0 run.1 run.4 on) heard.1 heard.0
+      let heard = keeps-heard input inputs h run.2 mappings run.0 run.1.answers x v (power_off h (followed_by run.0 run.1) on) run.4 split keeps in
+      keeps-run inputs run.2 later heard.1.0 run.1 x v run.5 (power_next h run.2 input run.0 run.1 run.4 on) heard.1.1 heard.0
 
   byte_or : (h : Machine) (x : Place) (v : Option ℕ) → KeepsOr h x v → HasOrLost since.lost (byte_at_place h x) v ⊎ HasNothing h
   byte_or h x v (inl keeps) = inl (keeps_byte since h x v keeps)
@@ -228,20 +255,10 @@ module _ (since : MayBe) where
       let free = came.to.interrupted ∙ does.whole.settled (is_on h action (covers_usable h action x covered) came.none) in
       record {
         place = covered_place since h action next x does.whole covered came.none came.to;
-        spared = subst (λ o. SparedBy since next.geometry o x) (sym free) tt;
+        spared = subst (λ o. SparedBy since next.geometry next.mappings o x) (sym free) tt;
         fine = subst (λ o. KeptBy o next.files) (sym free) tt;
         settled = λ on. free;
       }
-
--- the line may be lost; it was not harmed; it is weak, and was not synced
-abbrev lost_since : Bool → MayBe
-lost_since cut = record { weak = true; lost = true; cut = cut }
-
-abbrev unharmed_since : Bool → MayBe
-unharmed_since cut = record { weak = false; lost = false; cut = cut }
-
-abbrev weak_since : Bool → MayBe
-weak_since cut = record { weak = true; lost = false; cut = cut }
 
 not_lost : (h : Machine) (x : Place) (v : Option ℕ) → HasOrLost false (byte_at_place h x) v ⊎ HasNothing h → (byte_at_place h x ≡ v) ⊎ HasNothing h
 not_lost h x v (inl (inl is)) = inl is
@@ -251,24 +268,27 @@ not_lost h x v (inr nothing) = inr nothing
 -- a place that keeps its byte, whatever a run does, where the power may be cut or is not
 remains : (cut : Bool) (h : Machine) (x : Place) (v : Option ℕ) → IsComplete h → ((weak lost : Bool) → Keeps (record { weak = weak; lost = lost; cut = cut }) h x v)
     → (inputs : List Input) (said : Transcript) (later : Machine) → BringBytes inputs → Run h inputs said later → (cut ≡ true) ⊎ ((h.mode ≢ Off) × StaysPowered said)
-    → Remains inputs said.answers later x v
+    → Remains (commands_begun h.mappings inputs said.answers) later x v
 remains cut h x v whole keeps inputs said later bytes run power = record {
   has = λ spares.
       has true later x v (whole-run inputs h later said whole run)
-      (byte_or (lost_since cut) later x v
-      (keeps-run (lost_since cut) inputs h later said x v bytes run power (spares, inr refl, inr refl, inr (λ weak. refl)) (inl (keeps true true))));
+      (kept true true (spares, inr refl, inr refl, inr (λ weak. refl)));
   unharmed = λ spares poison weaken. not_lost later x v (by_harm spares poison weaken);
 }
   where
-    by_harm : Spares changes x inputs said.answers → Spares poisons x inputs said.answers
-        → Spares weakens x inputs said.answers ⊎ Spares (may_wear later) x inputs said.answers → HasOrLost false (byte_at_place later x) v ⊎ HasNothing later
-    by_harm spares poison (inl weaken) =
-        byte_or (unharmed_since cut) later x v
-        (keeps-run (unharmed_since cut) inputs h later said x v bytes run power (spares, inl poison, inl weaken, inr (λ weak. cc weak)) (inl (keeps false false)))
+    commands : List Begun
+    commands = commands_begun h.mappings inputs said.answers
+
+    kept : (weak lost : Bool) → Allowed (record { weak = weak; lost = lost; cut = cut }) h.geometry x commands → HasOrLost lost (byte_at_place later x) v ⊎ HasNothing later
+    kept weak lost all =
+        byte_or (record { weak = weak; lost = lost; cut = cut }) later x v
+        (keeps-run (record { weak = weak; lost = lost; cut = cut }) inputs h later h.mappings said x v run power (record { alike = refl; allowed = all; bytes = bytes }) (inl (keeps weak lost)))
+
+    by_harm : Spares changes x commands → Spares (λ mappings. poisons) x commands
+        → Spares (λ mappings. weakens) x commands ⊎ Spares (wears_with later.geometry) x commands → HasOrLost false (byte_at_place later x) v ⊎ HasNothing later
+    by_harm spares poison (inl weaken) = kept false false (spares, inl poison, inl weaken, inr (λ weak. cc weak))
     by_harm spares poison (inr cover) =
-        let synced = subst (λ g. Spares (λ action y. wears_out (may_make_durable g action) y) x inputs said.answers) (geometry_run inputs h later said run) cover in
-        byte_or (weak_since cut) later x v
-        (keeps-run (weak_since cut) inputs h later said x v bytes run power (spares, inl poison, inr refl, inl synced) (inl (keeps true false)))
+        kept true false (spares, inl poison, inr refl, inl (subst (λ g. Spares (wears_with g) x commands) (geometry_run inputs h later said run) cover))
 
 pub lasts : (h : Machine) (x : Place) (v : Option ℕ) → IsComplete h → ((since : MayBe) → Keeps since h x v) → Lasts h x v
 lasts h x v whole keeps inputs said later bytes run =
@@ -287,7 +307,7 @@ lasts_powered h x whole on strong inputs said later bytes run powered =
     remains false h x (byte_at_place h x) whole
     (λ weak lost. record {
       place = there h x weak lost whole strong;
-      spared = subst (λ o. SparedBy (record { weak = weak; lost = lost; cut = false }) h.geometry o x) (sym (whole.settled on)) tt;
+      spared = subst (λ o. SparedBy (record { weak = weak; lost = lost; cut = false }) h.geometry h.mappings o x) (sym (whole.settled on)) tt;
       fine = subst (λ o. KeptBy o h.files) (sym (whole.settled on)) tt;
       settled = whole.settled;
     })

@@ -13,7 +13,7 @@ use Rattle.machine_model.specs.OnBlocks.{blocks_from}
 use Rattle.machine_model.specs.Machine.{Machine}
 use Rattle.word_tables.specs.declared.geometry.Geometry.{Geometry}
 use Rattle.durable.specs.Place.{Place}
-use Rattle.durable.specs.Region.{Region, discarded_pages, everything, all_files, file_bytes, flushed_lines, flushed_through, holds, line_of_blocks, line_of_file, line_of_volume, nothing, pages_bytes, ranges_bytes, rewritten_bytes, spanned, stored_bytes, touched_lines, touched_lines_at, two_files, whole_file}
+use Rattle.durable.specs.Region.{Region, discarded_pages, everything, file_bytes, flushed_lines, flushed_through, holds, line_of_blocks, line_of_file, line_of_volume, nothing, pages_bytes, ranges_bytes, rewritten_bytes, spanned, stored_bytes, stored_through, touched_lines, touched_lines_at, two_files, whole_file}
 
 -- The bytes that a command makes durable: in place, where a weak line is lost by that, or anew, in lines that are not weak.
 pub record Covered : Type 0 where
@@ -93,64 +93,61 @@ covered_by flushed geo (Evict lines) = uncovered
 abbrev pub made_durable : Geometry → List Mapping → Action → Covered
 made_durable geo mappings action = covered_by (flushed_through mappings) geo action
 
--- An upper bound where they are not known: a flush through any handle counts for all bytes of all files.
-abbrev pub may_make_durable : Geometry → Action → Covered
-may_make_durable geo action = covered_by (λ handle spans. all_files) geo action
-
--- what a command writes, discards, scars, stores or clears; and all of a file that it makes, renames, resizes or deletes
-abbrev pub region_changed : Action → Region
-region_changed (BRead block count) = nothing
-region_changed (BWrite block bytes) = spanned (blocks_from block (length bytes / 512))
-region_changed (BAtomic block bytes) = spanned (blocks_from block (length bytes / 512))
-region_changed (BMulti ranges bytes) = spanned (block_spans ranges)
-region_changed (BDiscard block count) = spanned (blocks_from block count)
-region_changed (BDiscardIf block count) = spanned (blocks_from block count)
-region_changed (BExists block) = nothing
-region_changed (BScar ranges) = spanned ranges
-region_changed (VLoad offset len) = nothing
-region_changed (VStore offset bytes) = stored_bytes offset (length bytes)
-region_changed (VSync offset len) = nothing
-region_changed VRanges = nothing
-region_changed (VPSync address len) = nothing
-region_changed (VDiscard page count) = discarded_pages page count
-region_changed (VDiscardIf page count) = discarded_pages page count
-region_changed (VExists page) = nothing
-region_changed (Create name pages) = whole_file name
-region_changed (Delete name) = whole_file name
-region_changed (Rename name to) = two_files name to
-region_changed (Resize name pages) = whole_file name
-region_changed ListFiles = nothing
-region_changed (FRead name offset len) = nothing
-region_changed (FWrite name offset bytes) = file_bytes name offset (length bytes)
-region_changed (FAtomic name offset bytes) = file_bytes name offset (length bytes)
-region_changed (FMulti name ranges bytes) = ranges_bytes name ranges
-region_changed (FDiscard name page count) = pages_bytes name page count
-region_changed (FSync name) = nothing
-region_changed (Map name span kind) = nothing
-region_changed (Unmap handle) = nothing
-region_changed (Load handle offset len) = nothing
-region_changed (Store handle offset bytes) = all_files
-region_changed (Sync handle offset len) = nothing
-region_changed (Flush handle spans) = nothing
-region_changed (FlushVerify handle spans) = nothing
-region_changed (DeepFlush handle spans) = nothing
-region_changed NextEvent = nothing
-region_changed (CheckFile name offset len) = nothing
-region_changed (PoisonBlock block line) = nothing
-region_changed (PoisonVolume offset) = nothing
-region_changed (PoisonFile name offset) = nothing
-region_changed (PoisonMeta line) = nothing
-region_changed (WeakenFile name offset) = nothing
-region_changed (WeakenVolume offset) = nothing
-region_changed (ClearFile name offset) = line_of_file name (offset / 64)
-region_changed (ClearVolume offset) = line_of_volume (offset / 64)
-region_changed Cut = nothing
-region_changed (CutIn calls) = nothing
-region_changed (FailIn calls) = nothing
-region_changed (Restart choice) = nothing
-region_changed Recover = nothing
-region_changed (Attr name) = nothing
-region_changed (Evict lines) = nothing
+-- What a command writes, discards, scars, stores or clears, where the mappings are these; and all of a file that it makes, renames,
+-- resizes or deletes.
+abbrev pub region_changed : List Mapping → Action → Region
+region_changed mappings (BRead block count) = nothing
+region_changed mappings (BWrite block bytes) = spanned (blocks_from block (length bytes / 512))
+region_changed mappings (BAtomic block bytes) = spanned (blocks_from block (length bytes / 512))
+region_changed mappings (BMulti ranges bytes) = spanned (block_spans ranges)
+region_changed mappings (BDiscard block count) = spanned (blocks_from block count)
+region_changed mappings (BDiscardIf block count) = spanned (blocks_from block count)
+region_changed mappings (BExists block) = nothing
+region_changed mappings (BScar ranges) = spanned ranges
+region_changed mappings (VLoad offset len) = nothing
+region_changed mappings (VStore offset bytes) = stored_bytes offset (length bytes)
+region_changed mappings (VSync offset len) = nothing
+region_changed mappings VRanges = nothing
+region_changed mappings (VPSync address len) = nothing
+region_changed mappings (VDiscard page count) = discarded_pages page count
+region_changed mappings (VDiscardIf page count) = discarded_pages page count
+region_changed mappings (VExists page) = nothing
+region_changed mappings (Create name pages) = whole_file name
+region_changed mappings (Delete name) = whole_file name
+region_changed mappings (Rename name to) = two_files name to
+region_changed mappings (Resize name pages) = whole_file name
+region_changed mappings ListFiles = nothing
+region_changed mappings (FRead name offset len) = nothing
+region_changed mappings (FWrite name offset bytes) = file_bytes name offset (length bytes)
+region_changed mappings (FAtomic name offset bytes) = file_bytes name offset (length bytes)
+region_changed mappings (FMulti name ranges bytes) = ranges_bytes name ranges
+region_changed mappings (FDiscard name page count) = pages_bytes name page count
+region_changed mappings (FSync name) = nothing
+region_changed mappings (Map name span kind) = nothing
+region_changed mappings (Unmap handle) = nothing
+region_changed mappings (Load handle offset len) = nothing
+region_changed mappings (Store handle offset bytes) = stored_through mappings handle offset (length bytes)
+region_changed mappings (Sync handle offset len) = nothing
+region_changed mappings (Flush handle spans) = nothing
+region_changed mappings (FlushVerify handle spans) = nothing
+region_changed mappings (DeepFlush handle spans) = nothing
+region_changed mappings NextEvent = nothing
+region_changed mappings (CheckFile name offset len) = nothing
+region_changed mappings (PoisonBlock block line) = nothing
+region_changed mappings (PoisonVolume offset) = nothing
+region_changed mappings (PoisonFile name offset) = nothing
+region_changed mappings (PoisonMeta line) = nothing
+region_changed mappings (WeakenFile name offset) = nothing
+region_changed mappings (WeakenVolume offset) = nothing
+region_changed mappings (ClearFile name offset) = line_of_file name (offset / 64)
+region_changed mappings (ClearVolume offset) = line_of_volume (offset / 64)
+region_changed mappings Cut = nothing
+region_changed mappings (CutIn calls) = nothing
+region_changed mappings (FailIn calls) = nothing
+region_changed mappings (Restart choice) = nothing
+region_changed mappings Recover = nothing
+region_changed mappings (Attr name) = nothing
+region_changed mappings (Evict lines) = nothing
 
 -- the line that a command makes bad at once, and the one that it makes weak, which a sync makes bad; and what no mount finds any
 -- more, as a line of metadata is bad
@@ -220,18 +217,15 @@ harm_done (Evict lines) = no_harm
 abbrev pub is_made_durable : Machine → Action → Place → Bool
 is_made_durable h action x = holds (made_durable h.geometry h.mappings action).region x
 
-abbrev pub may_be_made_durable : Machine → Action → Place → Bool
-may_be_made_durable h action x = holds (may_make_durable h.geometry action).region x
-
 -- and of which a weak line would be lost by that
+abbrev pub wears_with : Geometry → List Mapping → Action → Place → Bool
+wears_with geo mappings action x = wears_out (made_durable geo mappings action) x
+
 abbrev pub wears : Machine → Action → Place → Bool
-wears h action x = wears_out (made_durable h.geometry h.mappings action) x
+wears h action x = wears_with h.geometry h.mappings action x
 
-abbrev pub may_wear : Machine → Action → Place → Bool
-may_wear h action x = wears_out (may_make_durable h.geometry action) x
-
-abbrev pub changes : Action → Place → Bool
-changes action x = holds (region_changed action) x
+abbrev pub changes : List Mapping → Action → Place → Bool
+changes mappings action x = holds (region_changed mappings action) x
 
 abbrev pub poisons : Action → Place → Bool
 poisons action x = holds (harm_done action).poisoned x

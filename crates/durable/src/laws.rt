@@ -2,7 +2,7 @@
 ghost use Rattle.std.specs.Prelude.{◌≡◌, ◌≢◌, ◌⊎◌, ◌+◌, ◌-◌, ◌*◌, ◌/◌, ℕ, true, false, List, [], ◌∷◌, ◌++◌, length, slice_index, Some, None};
 ghost use Rattle.word_tables.specs.declared.geometry.Geometry.{Geometry};
 ghost use Rattle.std.specs.List.{Contains};
-ghost use Rattle.durable.specs.Touching.{is_made_durable, may_be_made_durable, may_wear, unmounts, wears};
+ghost use Rattle.durable.specs.Touching.{is_made_durable, unmounts, wears};
 ghost use Rattle.nvm_base.specs.declared.files.FileEntry.{FileEntry};
 ghost use Rattle.nvm_base.specs.declared.units.Span.{Span};
 ghost use Rattle.reply_text.specs.Answer.Answer.{Files, RefusedMeta, Stopped as StoppedMeta, VerifyFile};
@@ -29,6 +29,7 @@ ghost use Rattle.machine_model.specs.OnPages.{pages_named};
 ghost use Rattle.machine_model.specs.Restarting.{reading};
 ghost use Rattle.machine_model.specs.Commands.{early_refusal, meaning};
 ghost use Rattle.machine_model.specs.Run.{Hears, Transcript, Run};
+ghost use Rattle.durable.specs.Mapped.{but_for_copies, commands_begun, exchanges, mappings_after};
 ghost use Rattle.durable.specs.Place.{Place, byte_at_place, is_weak_at, is_weak_line};
 ghost use Rattle.durable.specs.Naming.{Names, NamesLine, NamesLineOf, NamesObstacle, refused_before};
 ghost use Rattle.durable.specs.Place.Place.{of_volume, of_blocks, of_file};
@@ -44,8 +45,6 @@ ghost use Rattle.durable.specs.Files.{BreaksOff, FilesLast, FilesSettle, FilesTh
 /// none may sync it.
 pub fn what_was_made_durable_stays()
     ensures stays { (h next : Machine) (action : Action) (x : Place) → Finishes h action next → is_made_durable h action x ≡ true → IsDurable next x }
-    ensures bounded { (h : Machine) (action : Action) (x : Place) → is_made_durable h action x ≡ true → may_be_made_durable h action x ≡ true }
-    ensures bounded_in_place { (h : Machine) (action : Action) (x : Place) → wears h action x ≡ true → may_wear h action x ≡ true }
     ensures whole { (h end : Machine) (before after : List Input) (action : Action) (said : Transcript) (x : Place) → IsComplete h
         → BringBytes after → Run h (before ++ Asked action ∷ after) said end → KeepsThrough h before action after said end x }
     ensures scripts { (script : List ℕ) → BringBytes (inputs script) }
@@ -141,7 +140,7 @@ pub fn reads_name_what_is_lost()
 /// storage is there, then and in any later state, and a command on it is answered with the lowest one.
 pub fn what_bad_metadata_stops()
     ensures same { (h later : Machine) (x : Place) (inputs : List Input) (said : Transcript) → Run h inputs said later
-        → Spares unmounts x inputs said.answers → later.bad_meta ≡ h.bad_meta }
+        → Spares (λ mappings. unmounts) x (commands_begun h.mappings inputs said.answers) → later.bad_meta ≡ h.bad_meta }
     ensures stays { (h later : Machine) (line : ℕ) (inputs : List Input) (said : Transcript) → Run h inputs said later
         → Contains h.bad_meta line → Contains later.bad_meta line }
     ensures stopped { (h next : Machine) (action : Action) (line : ℕ) (said : Transcript) → Hears h (Asked action) said next
@@ -213,6 +212,13 @@ pub fn media_errors_are_told_once()
         → next.events ≡ h.events }
     ensures found { (h next : Machine) (action : Action) (said : Transcript) → Hears h (Asked action) said next → Mounts action said.answers
         → FindsAnew next }
+{}
+
+/// Which handle is of which file is told by the commands and their answers: the mappings of each later state are those, but for the
+/// bytes of copies.
+pub fn what_is_mapped_is_told()
+    ensures { (h later : Machine) (inputs : List Input) (said : Transcript) → Run h inputs said later
+        → but_for_copies later.mappings ≡ but_for_copies (mappings_after h.mappings (exchanges inputs said.answers)) }
 {}
 
 /// A machine that is read from an image is in such a state, whatever is armed, and no run leaves them.

@@ -1,0 +1,36 @@
+-- The definitions compute.
+use Rattle.std.proofs.Common.{refl}
+use Rattle.std.specs.Fmt.{digits}
+use Rattle.line_device.specs.Word.{byte_over, reaches, word_from, word_over}
+use Rattle.nvm_base.specs.Data.{data_text, data_within, runs_of}
+use Rattle.nvm_base.specs.Numbers.{number_of}
+use Rattle.word_tables.specs.Layout.{first_line, size, total_lines, volume_line}
+use Rattle.nvm_model.specs.Events.{bad_numbers, restart_events}
+use Rattle.nvm_model.specs.Page.{change_line, fill, first_bad_line, first_uncovered_line, look, put, read_pages}
+use Rattle.nvm_model.specs.Touched.{bad_touched, next_bad_touched, persist_spans}
+use Rattle.pm_volume.specs.Presence.{words_read}
+use Rattle.word_log.specs.Replay.{listed}
+use Rattle.block_device.specs.Reading.{blocks_read, states_read}
+use Rattle.inode_table.specs.Words.{bytes_in, slots_of}
+use Rattle.file_journal.specs.Reading.{tables_of, words_read as file_words}
+use Rattle.file_journal.specs.Standing.{files_read}
+use Rattle.script_text.specs.Script.{command_action, line_input, lines_of, words_of}
+use Rattle.machine_model.specs.Commands.{refusal}
+use Rattle.machine_model.specs.Restarting.{reading}
+use Rattle.durable.proofs.rows.worked_mappings.Goals as goal
+
+pub returns : goal.returns
+unfolding digits word_from byte_over word_over reaches number_of runs_of data_within data_text change_line fill put first_bad_line first_uncovered_line look read_pages words_read lines_of words_of command_action line_input refusal size first_line total_lines volume_line reading restart_events bad_numbers states_read blocks_read listed files_read file_words tables_of slots_of bytes_in bad_touched next_bad_touched persist_spans
+returns c = record {
+  first_line = (refl, refl);
+  second_line = (refl, refl);
+  copy_of_a_file = (refl, refl);
+  part_of_a_file = (refl, refl);
+  one_file = (refl, refl);
+  another_file = (refl, refl);
+  before_a_restart = refl;
+  after_a_restart = (refl, refl);
+  recovery_interrupted = refl;
+  recovered = refl;
+  restart_interrupted = refl;
+}
