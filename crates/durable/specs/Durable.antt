@@ -16,7 +16,7 @@ use Rattle.script_text.specs.Script.{Input}
 use Rattle.script_text.specs.Script.Input.{Skipped, Malformed, Overlong, Asked}
 use Rattle.machine_model.specs.declared.mode.Mode.TheVariants.{On, Stopped}
 use Rattle.machine_model.specs.Machine.{Machine}
-use Rattle.machine_model.specs.Run.{Transcript, Hears, Run}
+use Rattle.machine_model.specs.Run.{Transcript, Hears, Run, followed_by}
 use Rattle.durable.specs.Place.{Place, byte_at_place, is_line_present, is_weak_at}
 use Rattle.durable.specs.Place.Place.{of_volume, of_blocks, of_file}
 use Rattle.durable.specs.Touching.{changes, is_made_durable, poisons, weakens, wears, wears_with}
@@ -215,6 +215,15 @@ pub record Finishes (h : Machine) (action : Action) (next : Machine) : Type 0 wh
   pub came : Hears h (Asked action) said next
   pub done : AreDone said.answers
 
+-- A run over some inputs and others, as it comes to the others.
+pub record Comes (h : Machine) (before after : List Input) (said : Transcript) (end : Machine) : Type 0 where
+  pub early : Transcript
+  pub here : Machine
+  pub run : Run h before early here
+  pub late : Transcript
+  pub rest : Run here after late end
+  pub whole : said ≡ followed_by early late
+
 -- A run over some inputs, a command and others, as it comes to the command.
 pub record Passes (h : Machine) (before : List Input) (action : Action) (after : List Input) (said : Transcript) (end : Machine) : Type 0 where
   pub early : Transcript
@@ -225,10 +234,12 @@ pub record Passes (h : Machine) (before : List Input) (action : Action) (after :
   pub came : Hears here (Asked action) middle next
   pub late : Transcript
   pub rest : Run next after late end
-  pub answers : said.answers ≡ early.answers ++ (middle.answers ++ late.answers)
+  pub whole : said ≡ followed_by early (followed_by middle late)
 
--- where the command made the place durable and was done, the rest left of its byte what it leaves of a durable one
+-- Where the command made the place durable and was done, what came then left of its byte, in each later state of the run, what it
+-- leaves of a durable one.
 pub record KeepsThrough (h : Machine) (before : List Input) (action : Action) (after : List Input) (said : Transcript) (end : Machine) (x : Place) : Type 0 where
   pub passes : Passes h before action after said end
-  pub keeps : is_made_durable passes.here action x ≡ true → AreDone passes.middle.answers
-      → Remains (commands_begun passes.next.mappings after passes.late.answers) end x (byte_at_place passes.next x)
+  pub keeps : is_made_durable passes.here action x ≡ true → AreDone passes.middle.answers → (between rest : List Input) → after ≡ between ++ rest
+      → (later : Comes passes.next between rest passes.late end)
+      × Remains (commands_begun passes.next.mappings between later.early.answers) later.here x (byte_at_place passes.next x)
