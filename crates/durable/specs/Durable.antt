@@ -1,9 +1,10 @@
 -- What was made durable stays.
-use Rattle.std.specs.Prelude.{◌≡◌, ◌≢◌, ◌⊎◌, ◌*◌, ◌-◌, ◌/◌, ◌<◌, ℕ, Bool, true, false, List, [], ◌∷◌, ◌++◌, length, slice_index, Option, None, Some, IfSome}
+use Rattle.std.specs.Prelude.{◌≡◌, ◌≢◌, ◌⊎◌, ◌+◌, ◌*◌, ◌-◌, ◌/◌, ◌<◌, ℕ, Bool, true, false, List, [], ◌∷◌, ◌++◌, length, slice_index, Option, None, Some, IfSome}
 use Rattle.std.specs.List.{list_any}
 use Rattle.nvm_model.specs.Blocks.{nth}
 use Rattle.nvm_model.specs.Cell.{Cell}
 use Rattle.nvm_model.specs.Cell.Cell.{Bad, Kept}
+use Rattle.nvm_model.specs.Mappings.{is_shared, mapping_of}
 use Rattle.nvm_model.specs.Numbered.{is_among}
 use Rattle.nvm_model.specs.Page.{Page, cell_of}
 use Rattle.nvm_model.specs.Storage.{Block, File, Mapping}
@@ -140,7 +141,23 @@ NoneBegun does commands = list_any does commands ≡ false
 abbrev pub Spares : (List Mapping → Action → Place → Bool) → Place → List Begun → Type 0
 Spares does x commands = NoneBegun (λ (command : Begun). does command.mappings command.action x) commands
 
--- a read at the place that is answered with bytes has this one there
+-- the mapping has this handle, and shows its file
+pub record IsShown (h : Machine) (handle : ℕ) (m : Mapping) : Type 0 where
+  pub is : mapping_of handle h.mappings ≡ Some m
+  pub shared : is_shared m.kind ≡ true
+
+-- a read of a file by its name, and one through a mapping that shows it, that is answered with bytes has this one there
+abbrev pub ReadsNamed : Machine → List ℕ → ℕ → ℕ → Type 0
+ReadsNamed h name i byte = (offset len : ℕ) (bytes : List ℕ) (said : Transcript) (next : Machine)
+    → Hears h (Asked (FRead name offset len)) said next → said.answers ≡ Bytes bytes ∷ [] → is_among offset len i ≡ true
+    → slice_index bytes (i - offset) ≡ byte
+
+abbrev pub ReadsMapped : Machine → List ℕ → ℕ → ℕ → Type 0
+ReadsMapped h name i byte = (handle offset len : ℕ) (m : Mapping) (bytes : List ℕ) (said : Transcript) (next : Machine) → IsShown h handle m → m.name ≡ name
+    → Hears h (Asked (Load handle offset len)) said next → said.answers ≡ Bytes bytes ∷ [] → is_among (m.start + offset) len i ≡ true
+    → slice_index bytes (i - (m.start + offset)) ≡ byte
+
+-- so has a read at the place
 abbrev pub Reads : Machine → Place → ℕ → Type 0
 Reads h (of_volume i) byte = (offset len : ℕ) (bytes : List ℕ) (said : Transcript) (next : Machine)
     → Hears h (Asked (VLoad offset len)) said next → said.answers ≡ Bytes bytes ∷ [] → is_among offset len i ≡ true
@@ -148,9 +165,7 @@ Reads h (of_volume i) byte = (offset len : ℕ) (bytes : List ℕ) (said : Trans
 Reads h (of_blocks i) byte = (block count : ℕ) (bytes : List ℕ) (said : Transcript) (next : Machine)
     → Hears h (Asked (BRead block count)) said next → said.answers ≡ Bytes bytes ∷ [] → is_among block count (i / 512) ≡ true
     → slice_index bytes (i - 512 * block) ≡ byte
-Reads h (of_file name i) byte = (offset len : ℕ) (bytes : List ℕ) (said : Transcript) (next : Machine)
-    → Hears h (Asked (FRead name offset len)) said next → said.answers ≡ Bytes bytes ∷ [] → is_among offset len i ≡ true
-    → slice_index bytes (i - offset) ≡ byte
+Reads h (of_file name i) byte = ReadsNamed h name i byte × ReadsMapped h name i byte
 
 -- The place has this byte, or can't be read any more, or nothing is there; None is a byte that couldn't be read. What a read
 -- shows there is the byte.

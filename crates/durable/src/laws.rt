@@ -9,14 +9,14 @@ ghost use Rattle.reply_text.specs.Answer.Answer.{Files, RefusedMeta, Stopped as 
 ghost use Rattle.nvm_model.specs.Cell.{covers, touches};
 ghost use Rattle.nvm_model.specs.Numbered.{is_among};
 ghost use Rattle.nvm_model.specs.Page.{cell_of, touches_absent};
-ghost use Rattle.nvm_model.specs.Storage.{File};
+ghost use Rattle.nvm_model.specs.Storage.{File, Mapping};
 ghost use Rattle.range_sets.specs.Ranges.{total_of};
 ghost use Rattle.line_device.specs.Panel.{Image};
 ghost use Rattle.word_tables.specs.Layout.{volume_line};
 ghost use Rattle.pm_volume.specs.Presence.{presence_read};
 ghost use Rattle.pm_volume.specs.Refusals.{physical_offset};
 ghost use Rattle.script_text.specs.Action.{Action};
-ghost use Rattle.script_text.specs.Action.Action.{BRead, BWrite, BAtomic, VLoad, VStore, VSync, VPSync, FRead, FWrite, FAtomic, FMulti, FlushVerify, PoisonBlock, PoisonFile, PoisonVolume, ClearFile, ClearVolume, Cut, Recover, Restart, ListFiles, NextEvent};
+ghost use Rattle.script_text.specs.Action.Action.{BRead, BWrite, BAtomic, VLoad, VStore, VSync, VPSync, FRead, FWrite, FAtomic, FMulti, Load, FlushVerify, PoisonBlock, PoisonFile, PoisonVolume, ClearFile, ClearVolume, Cut, Recover, Restart, ListFiles, NextEvent};
 ghost use Rattle.script_text.specs.Script.{Input, inputs};
 ghost use Rattle.script_text.specs.Script.Input.{Asked};
 ghost use Rattle.line_device.specs.declared.line.Choice.{Choice};
@@ -33,7 +33,7 @@ ghost use Rattle.durable.specs.Mapped.{but_for_copies, commands_begun, exchanges
 ghost use Rattle.durable.specs.Place.{Place, byte_at_place, is_weak_at, is_weak_line};
 ghost use Rattle.durable.specs.Naming.{Names, NamesLine, NamesLineOf, NamesObstacle, refused_before};
 ghost use Rattle.durable.specs.Place.Place.{of_volume, of_blocks, of_file};
-ghost use Rattle.durable.specs.Durable.{BringBytes, BringsBytes, Does, Finishes, HasNothing, IsDurable, IsComplete, KeepsByte, KeepsThrough, Lasts, LastsPowered, Spares};
+ghost use Rattle.durable.specs.Durable.{BringBytes, BringsBytes, Does, Finishes, HasNothing, IsDurable, IsComplete, IsShown, KeepsByte, KeepsThrough, Lasts, LastsPowered, Spares};
 ghost use Rattle.durable.specs.Whole.{BreaksOffFor, HasEither, ShowsEither, ShowsFiles, WholeWrite, command, files_written};
 ghost use Rattle.durable.specs.Whole.WholeWrite.{atomic, together, discards};
 ghost use Rattle.durable.specs.Events.{AreMounted, FindsAnew, Mounts, NoneMounts, TellsInOrder, TellsLines, TellsOldest, all_told};
@@ -123,7 +123,7 @@ pub fn what_is_lost_stays_lost()
 {}
 
 /// A read over a lost byte gives no data. Unless its mode or its span refuses it, it names the lowest bad line of its span, in the
-/// volume or in a file, or the lowest block that is scarred or has a bad line.
+/// volume or in a file, also through a mapping that shows it, or the lowest block that is scarred or has a bad line.
 pub fn reads_name_what_is_lost()
     ensures volume { (h next : Machine) (offset len i : ℕ) (said : Transcript) → byte_at_place h (of_volume i) ≡ None
         → is_among offset len i ≡ true → Hears h (Asked (VLoad offset len)) said next
@@ -134,6 +134,9 @@ pub fn reads_name_what_is_lost()
     ensures in_file { (h next : Machine) (name : List ℕ) (offset len i : ℕ) (said : Transcript) → byte_at_place h (of_file name i) ≡ None
         → is_among offset len i ≡ true → Hears h (Asked (FRead name offset len)) said next
         → Names (refused_before h (FRead name offset len)) (NamesLineOf name (pages_named name h.files) offset len) said.answers }
+    ensures through_a_mapping { (h next : Machine) (handle offset len i : ℕ) (m : Mapping) (said : Transcript) → IsShown h handle m
+        → byte_at_place h (of_file m.name i) ≡ None → is_among (m.start + offset) len i ≡ true → Hears h (Asked (Load handle offset len)) said next
+        → Names (refused_before h (Load handle offset len)) (NamesLineOf m.name (pages_named m.name h.files) (m.start + offset) len) said.answers }
 {}
 
 /// A line of metadata goes bad only by a command that poisons one, and stays bad. Where a mount is stopped by one, nothing of the
