@@ -173,7 +173,7 @@ no_handle : (answer : Answer) → is_refused answer ≡ true → handle_in answe
 no_handle (Handle n) is = cc is
 no_handle answer is = refl
 
-not_begun : (answer : Answer) → is_refused answer ≡ true → is_begun answer ≡ false
+pub not_begun : (answer : Answer) → is_refused answer ≡ true → is_begun answer ≡ false
 not_begun Done is = cc is
 not_begun (VerifyFile name offset) is = cc is
 not_begun DeviceFailed is = cc is

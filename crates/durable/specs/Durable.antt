@@ -1,5 +1,5 @@
 -- What was made durable stays.
-use Rattle.std.specs.Prelude.{◌≡◌, ◌≢◌, ◌⊎◌, ◌+◌, ◌*◌, ◌-◌, ◌/◌, ◌<◌, ℕ, Bool, true, false, List, [], ◌∷◌, ◌++◌, length, slice_index, Option, None, Some, IfSome}
+use Rattle.std.specs.Prelude.{◌≡◌, ◌≢◌, ◌⊎◌, ◌&&◌, ◌||◌, ◌+◌, ◌*◌, ◌-◌, ◌/◌, ◌<◌, ℕ, Bool, true, false, List, [], ◌∷◌, ◌++◌, length, slice_index, Option, None, Some, IfSome}
 use Rattle.std.specs.List.{list_any}
 use Rattle.nvm_model.specs.Blocks.{nth}
 use Rattle.nvm_model.specs.Cell.{Cell}
@@ -18,6 +18,7 @@ use Rattle.script_text.specs.Script.Input.{Skipped, Malformed, Overlong, Asked}
 use Rattle.machine_model.specs.declared.mode.Mode.TheVariants.{On, Stopped}
 use Rattle.machine_model.specs.Machine.{Machine}
 use Rattle.machine_model.specs.Run.{Transcript, Hears, Run, followed_by}
+use Rattle.word_tables.specs.declared.geometry.Geometry.{Geometry}
 use Rattle.durable.specs.Place.{Place, byte_at_place, is_line_present, is_weak_at}
 use Rattle.durable.specs.Place.Place.{of_volume, of_blocks, of_file}
 use Rattle.durable.specs.Touching.{changes, is_made_durable, poisons, weakens, wears, wears_with}
@@ -173,12 +174,18 @@ pub record Has (h : Machine) (x : Place) (byte : Option ℕ) : Type 0 where
   pub kept : ((byte_at_place h x ≡ byte) ⊎ (byte_at_place h x ≡ None)) ⊎ HasNothing h
   pub shown : IfSome byte (Reads h x)
 
--- What these commands left of a byte that none of them changed: the place has it still, or was lost, or nothing is there. It was
--- not lost where none poisoned its line, and none made the line weak or none made it durable in place.
+-- one of these commands makes the place durable in place while its line is weak: before them it is so or not, and then from a
+-- command on that makes it weak
+abbrev pub is_worn : Geometry → Place → Bool → List Begun → Bool
+is_worn geo x weak [] = false
+is_worn geo x weak (one ∷ rest) = (weak && wears_with geo one.mappings one.action x) || is_worn geo x (weak || weakens one.action x) rest
+
+-- What these commands left of a byte that none of them changed, of a line that was not weak: the place has it still, or was lost, or
+-- nothing is there. It was lost only where one of them poisoned its line, or made it durable in place once another had made it weak.
 pub record Remains (commands : List Begun) (later : Machine) (x : Place) (byte : Option ℕ) : Type 0 where
   pub has : Spares changes x commands → Has later x byte
-  pub unharmed : Spares changes x commands → Spares (λ mappings. poisons) x commands
-      → Spares (λ mappings. weakens) x commands ⊎ Spares (wears_with later.geometry) x commands → (byte_at_place later x ≡ byte) ⊎ HasNothing later
+  pub unharmed : Spares changes x commands → Spares (λ mappings. poisons) x commands → is_worn later.geometry x false commands ≡ false
+      → (byte_at_place later x ≡ byte) ⊎ HasNothing later
 
 -- so it is in every later state of every run, whatever is cut, fails, and is restarted or recovered
 abbrev pub Lasts : Machine → Place → Option ℕ → Type 0

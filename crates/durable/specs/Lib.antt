@@ -8,3 +8,4 @@ pub mod Files
 pub mod Events
 pub mod Whole
 pub mod MappedRows
+pub mod WornRows

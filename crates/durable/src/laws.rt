@@ -41,8 +41,8 @@ ghost use Rattle.durable.specs.Files.{BreaksOff, FilesLast, FilesSettle, FilesTh
 
 /// A command that covers a byte of the blocks, the volume or a file was done, a flush also where it lost a line: in every later state,
 /// whatever is cut, fails, and is restarted or recovered, the byte is the same or its line is lost, until a command that changes it is
-/// begun; or nothing is there, since metadata is bad. It isn't lost where no command poisons its line, and none makes the line weak or
-/// none may sync it.
+/// begun; or nothing is there, since metadata is bad. It is lost only where a command poisons its line, or one that makes it durable in
+/// place is begun once another has made the line weak. A store or a flush through a handle is of the bytes that the handle is mapped to.
 pub fn what_was_made_durable_stays()
     ensures stays { (h next : Machine) (action : Action) (x : Place) → Finishes h action next → is_made_durable h action x ≡ true → IsDurable next x }
     ensures whole { (h end : Machine) (before after : List Input) (action : Action) (said : Transcript) (x : Place) → IsComplete h
