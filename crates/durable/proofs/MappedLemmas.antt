@@ -1,5 +1,5 @@
 -- The mappings of a state are those that the answers of a run tell, but for the bytes of copies.
-use Rattle.std.proofs.Common.{◌≡◌, ◌⊎◌, inl, inr, ℕ, ◌&&◌, ◌||◌, ◌++◌, Bool, true, false, cond, not, Option, Some, None, option_map, List, [], ◌∷◌, length, map, refl, sym, ap, subst, ◌∙◌, if◌then◌else◌}
+use Rattle.std.proofs.Common.{◌≡◌, ◌⊎◌, inl, inr, ℕ, ◌&&◌, ◌||◌, ◌++◌, Bool, true, false, cond, not, Option, Some, None, option_map, List, [], ◌∷◌, length, refl, sym, ap, subst, ◌∙◌, if◌then◌else◌}
 use Rattle.std.specs.Prelude.{is_none}
 use Rattle.std.specs.List.{list_any}
 use Rattle.std.proofs.lemmas.Bool.{or_parts}
@@ -9,7 +9,6 @@ use Rattle.line_device.specs.declared.line.Choice.{Choice}
 use Rattle.line_words.specs.declared.interruption.Interruption.{Interruption}
 use Rattle.line_words.specs.declared.interruption.Interruption.TheVariants.{Failed, PowerLost as Lost}
 use Rattle.word_tables.specs.declared.geometry.Geometry.{Geometry}
-use Rattle.nvm_base.specs.declared.files.Kind.{Kind}
 use Rattle.nvm_base.specs.declared.units.Span.{Span}
 use Rattle.nvm_model.specs.Mappings.{change_copy, has_handle, mapping_of, new_mapping, overwritten, without_mapping}
 use Rattle.nvm_model.specs.Storage.{Mapping}
@@ -33,7 +32,7 @@ use Rattle.machine_model.specs.Run.{Hears, Run, Takes, Transcript}
 use Rattle.durable.specs.Region.{flushed_by, flushed_through, stored_by, stored_through}
 use Rattle.durable.specs.Touching.{in_place, is_begun, made_durable, region_changed}
 use Rattle.durable.specs.Durable.{NoneBegun}
-use Rattle.durable.specs.Mapped.{Begun, all_begun, but_for_copies, commands_begun, exchanges, handle_in, is_done, is_mounted, mapping_told, mappings_after, mappings_then, with_told}
+use Rattle.durable.specs.Mapped.{Begun, but_for_copies, commands_begun, exchanges, handle_in, is_done, is_mounted, mapping_told, mappings_after, mappings_then, with_told}
 use Rattle.durable.proofs.HandleLemmas.{of_flush, of_load, of_map, of_store}
 use Rattle.durable.proofs.RefusalLemmas.{refused_told}
 use Rattle.durable.proofs.RefusedAnswerLemmas.{is_refused}

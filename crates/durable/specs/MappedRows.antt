@@ -1,9 +1,8 @@
 -- Worked scripts with mappings: which of their commands change a byte of a file, and which make it durable.
-use Rattle.std.specs.Prelude.{◌≡◌, ◌*◌, ℕ, Bool, true, false, List, [], ◌∷◌, codes, map}
+use Rattle.std.specs.Prelude.{◌≡◌, ℕ, Bool, true, false, List, [], ◌∷◌, codes, map}
 use Rattle.line_device.specs.Panel.{Start}
 use Rattle.line_device.specs.declared.line.Choice.TheVariants.{Lasts}
 use Rattle.nvm_base.specs.declared.files.Kind.TheVariants.{Shared}
-use Rattle.nvm_base.specs.declared.units.Span.{Span}
 use Rattle.nvm_model.specs.Storage.{Mapping}
 use Rattle.reply_text.specs.Answer.{Answer}
 use Rattle.reply_text.specs.Answer.Answer.{Done, DoneBad, Handle, DeviceFailed, PowerLost}

@@ -8,7 +8,8 @@ ghost use Rattle.nvm_base.specs.declared.units.Span.{Span};
 ghost use Rattle.reply_text.specs.Answer.Answer.{Files, RefusedMeta, Stopped as StoppedMeta, VerifyFile};
 ghost use Rattle.nvm_model.specs.Cell.{covers, touches};
 ghost use Rattle.nvm_model.specs.Numbered.{is_among};
-ghost use Rattle.nvm_model.specs.Page.{cell_of, touches_absent};
+ghost use Rattle.nvm_model.specs.Blocks.{write};
+ghost use Rattle.nvm_model.specs.Page.{Page, cell_of, discard, touches_absent};
 ghost use Rattle.nvm_model.specs.Storage.{File, Mapping};
 ghost use Rattle.range_sets.specs.Ranges.{total_of};
 ghost use Rattle.line_device.specs.Panel.{Image};
@@ -25,6 +26,7 @@ ghost use Rattle.machine_model.specs.declared.mode.Mode.TheVariants.{On, Stopped
 ghost use Rattle.machine_model.specs.declared.needs.Needs.TheVariants.{Usable};
 ghost use Rattle.machine_model.specs.Lines.{lowest};
 ghost use Rattle.machine_model.specs.Machine.{Machine};
+ghost use Rattle.machine_model.specs.OnFileActions.{discarded_in, written_together};
 ghost use Rattle.machine_model.specs.OnPages.{pages_named};
 ghost use Rattle.machine_model.specs.Restarting.{reading};
 ghost use Rattle.machine_model.specs.Commands.{early_refusal, meaning};
@@ -34,8 +36,7 @@ ghost use Rattle.durable.specs.Place.{Place, byte_at_place, is_weak_at, is_weak_
 ghost use Rattle.durable.specs.Naming.{Names, NamesLine, NamesLineOf, NamesObstacle, refused_before};
 ghost use Rattle.durable.specs.Place.Place.{of_volume, of_blocks, of_file};
 ghost use Rattle.durable.specs.Durable.{BringBytes, BringsBytes, Does, Finishes, HasNothing, IsDurable, IsComplete, IsShown, KeepsByte, KeepsThrough, Lasts, LastsPowered, Spares};
-ghost use Rattle.durable.specs.Whole.{BreaksOffFor, HasEither, ShowsEither, ShowsFiles, WholeWrite, command, files_written};
-ghost use Rattle.durable.specs.Whole.WholeWrite.{atomic, together, discards};
+ghost use Rattle.durable.specs.Whole.{BreaksOffFor, HasEither, ShowsEither, ShowsFiles, ShowsVolume, WholeWrite, command};
 ghost use Rattle.durable.specs.Events.{AreMounted, FindsAnew, Mounts, NoneMounts, TellsInOrder, TellsLines, TellsOldest, all_told};
 ghost use Rattle.durable.specs.Files.{BreaksOff, FilesLast, FilesSettle, FilesThrough, IsStopped, LeavesFiles, changes_files, files_after, files_listed};
 
@@ -177,9 +178,10 @@ pub fn what_files_there_are_stays()
         → changes_files action ≡ true → Run h (before ++ Asked action ∷ after) said end → FilesThrough h before action after said end }
 {}
 
-/// An atomic write or a discard of pages of a file that was stopped is done as a whole or not at all. The next recovery
-/// leaves the files as before, or as they were to be, where it is done. So does the next restart, where each byte shows a value that its
-/// word had since it was last durable, the last one where that was asked for: what was written shows as it was written, and holes as zeros.
+/// An atomic write of blocks or of a file, a discard of blocks or pages, a scar or a clear that was stopped is done as a whole or not at
+/// all. The next recovery leaves the storage as before, or as it was to be, where it is done. So does the next restart, where each byte
+/// of a page shows a value that its word had since it was last durable, the last one where that was asked for: what was written shows
+/// as it was written, and what was discarded as zeros.
 pub fn a_stopped_write_is_whole_or_not()
     ensures recovered { (write : WholeWrite) (h next later : Machine) (said : Transcript) → BreaksOffFor h (command write) next
         → Hears next (Asked Recover) said later → AreMounted said.answers → HasEither write h later }
@@ -187,15 +189,21 @@ pub fn a_stopped_write_is_whole_or_not()
         → Hears next (Asked (Restart choice)) said later → AreMounted said.answers ⊎ IsStopped said.answers → ShowsEither choice write h later }
     ensures shown { (h next later : Machine) (name : List ℕ) (i : ℕ) (before after : List Span) (range : Span) (bytes : List ℕ) (choice : Choice)
         → BringsBytes (FMulti name (before ++ range ∷ after) bytes) → BreaksOff h (FMulti name (before ++ range ∷ after) bytes) next
-        → ShowsFiles choice (files_written (together name (before ++ range ∷ after) bytes) h.files) later → is_among range.start range.len i ≡ true
+        → ShowsFiles choice (written_together name (before ++ range ∷ after) bytes h.files) later → is_among range.start range.len i ≡ true
         → byte_at_place later (of_file name i) ≡ Some (slice_index bytes (total_of before + (i - range.start))) }
     ensures shown_alone { (h next later : Machine) (name : List ℕ) (offset i : ℕ) (bytes : List ℕ) (choice : Choice)
         → BringsBytes (FAtomic name offset bytes) → BreaksOff h (FAtomic name offset bytes) next
-        → ShowsFiles choice (files_written (atomic name offset bytes) h.files) later → is_among offset (length bytes) i ≡ true
+        → ShowsFiles choice (written_together name (record { start = offset; len = length bytes } ∷ []) bytes h.files) later → is_among offset (length bytes) i ≡ true
         → byte_at_place later (of_file name i) ≡ Some (slice_index bytes (i - offset)) }
     ensures shown_holes { (later : Machine) (name : List ℕ) (page count i : ℕ) (files : List File) (choice : Choice)
-        → ShowsFiles choice (files_written (discards name page count) files) later → is_among page count (i / 4096) ≡ true
+        → ShowsFiles choice (discarded_in name page count files) later → is_among page count (i / 4096) ≡ true
         → byte_at_place later (of_file name i) ≡ Some 0 }
+    ensures shown_blocks { (h next later : Machine) (block i : ℕ) (bytes : List ℕ) → BreaksOff h (BAtomic block bytes) next
+        → later.blocks ≡ write block bytes h.blocks → is_among block (length bytes / 512) (i / 512) ≡ true
+        → byte_at_place later (of_blocks i) ≡ Some (slice_index bytes (i - 512 * block)) }
+    ensures shown_discarded { (later : Machine) (page count i : ℕ) (pages : List Page) (choice : Choice)
+        → ShowsVolume choice (discard page count pages) later → is_among page count (i / 4096) ≡ true
+        → byte_at_place later (of_volume i) ≡ Some 0 }
 {}
 
 /// Media errors of files are told once, in the order in which they came, and are found again at a mount. While nothing is mounted again,
