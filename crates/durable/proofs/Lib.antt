@@ -48,3 +48,4 @@ pub mod TellingLemmas
 pub mod ToldLemmas
 pub mod OrderLemmas
 pub mod FoundLemmas
+pub mod WithinLemmas

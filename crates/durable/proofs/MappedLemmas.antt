@@ -198,7 +198,7 @@ mounted : (bad : List ℕ) (h : Machine) → is_mounted (answer_with bad h) ≡ 
 mounted [] h = refl
 mounted (line ∷ lines) h = refl
 
-read-unmapped : (geo : Geometry) (image : Image) → (reading geo image).mappings ≡ []
+pub read-unmapped : (geo : Geometry) (image : Image) → (reading geo image).mappings ≡ []
 unfolding reading
 read-unmapped geo image = by_list (bad_metadata geo image.is_bad)
   where
@@ -206,7 +206,7 @@ read-unmapped geo image = by_list (bad_metadata geo image.is_bad)
     by_list [] = refl
     by_list (line ∷ lines) = refl
 
-recovered-unmapped : (h next : Machine) (bad : List ℕ) → RecoversTo bad h next → next.mappings ≡ []
+pub recovered-unmapped : (h next : Machine) (bad : List ℕ) → RecoversTo bad h next → next.mappings ≡ []
 recovered-unmapped h next [] to = ap (λ m. m.mappings) to.state
 recovered-unmapped h next (line ∷ lines) to = ap (λ m. m.mappings) to
 

@@ -1,9 +1,9 @@
 -- The mappings of files that there are, as commands and their answers tell them; and the commands that were begun.
-use Rattle.std.specs.Prelude.{◌&&◌, ◌||◌, ◌++◌, ℕ, Bool, true, false, List, [], ◌∷◌, map, Option, Some, None, is_none, if◌then◌else◌}
+use Rattle.std.specs.Prelude.{◌+◌, ◌*◌, ◌≤◌, ◌&&◌, ◌||◌, ◌++◌, ℕ, Bool, true, false, List, [], ◌∷◌, length, map, Option, Some, None, is_none, if◌then◌else◌}
 use Rattle.nvm_base.specs.declared.files.Kind.{Kind}
 use Rattle.nvm_base.specs.declared.units.Span.{Span}
 use Rattle.nvm_model.specs.Mappings.{without_mapping}
-use Rattle.nvm_model.specs.Storage.{Mapping}
+use Rattle.nvm_model.specs.Storage.{File, Mapping}
 use Rattle.reply_text.specs.Answer.{Answer}
 use Rattle.reply_text.specs.Answer.Answer.{Done, DoneBad, Bytes, Ranges, Files, Handle, Happened, NoEvent, BadLines, Attribute, VerifyFile, Yes, No, Scarred, PoisonBlock as PoisonedBlock, PoisonVolume as PoisonedVolume, PoisonFile as PoisonedFile, DeviceFailed, PowerLost, Stopped, Refused, RefusedMeta}
 use Rattle.script_text.specs.Action.{Action}
@@ -11,6 +11,7 @@ use Rattle.script_text.specs.Action.Action.{BRead, BWrite, BAtomic, BMulti, BDis
 use Rattle.script_text.specs.Script.{Input}
 use Rattle.script_text.specs.Script.Input.{Skipped, Malformed, Overlong, Asked}
 use Rattle.machine_model.specs.Interrupted.{stop_in}
+use Rattle.machine_model.specs.OnPages.{pages_named}
 use Rattle.durable.specs.Touching.{is_begun}
 
 -- a mapping that was made and has this handle, but for the bytes of a copy
@@ -20,6 +21,11 @@ mapping_told handle name span kind = record { handle = handle; name = name; star
 -- mappings, but for the bytes of copies
 abbrev pub but_for_copies : List Mapping → List Mapping
 but_for_copies mappings = map (λ (m : Mapping). record m { copy = [] }) mappings
+
+-- each mapping lies within its file
+abbrev pub AreWithin : List Mapping → List File → Type 0
+AreWithin [] files = Unit {0}
+AreWithin (m ∷ mappings) files = (m.start + m.len ≤ 4096 * length (pages_named m.name files)) × AreWithin mappings files
 
 -- the answer tells that a command was done
 abbrev pub is_done : Answer → Bool
@@ -81,7 +87,7 @@ with_told mappings name span kind None = mappings
 with_told mappings name span kind (Some handle) = mappings ++ mapping_told handle name span kind ∷ []
 
 -- The mappings once a command was answered so: a map makes one, an unmap takes one, and a mount takes all, also that of a restart
--- which was stopped on the way.
+-- which was stopped on the way; a recovery that was stopped takes none.
 abbrev pub mappings_then : List Mapping → Action → Answer → List Mapping
 mappings_then mappings (BRead block count) answer = mappings
 mappings_then mappings (BWrite block bytes) answer = mappings

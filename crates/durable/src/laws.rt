@@ -17,7 +17,7 @@ ghost use Rattle.word_tables.specs.Layout.{volume_line};
 ghost use Rattle.pm_volume.specs.Presence.{presence_read};
 ghost use Rattle.pm_volume.specs.Refusals.{physical_offset};
 ghost use Rattle.script_text.specs.Action.{Action};
-ghost use Rattle.script_text.specs.Action.Action.{BRead, BWrite, BAtomic, VLoad, VStore, VSync, VPSync, FRead, FWrite, FAtomic, FMulti, Load, FlushVerify, PoisonBlock, PoisonFile, PoisonVolume, ClearFile, ClearVolume, Cut, Recover, Restart, ListFiles, NextEvent};
+ghost use Rattle.script_text.specs.Action.Action.{BRead, BWrite, BAtomic, VLoad, VStore, VSync, VPSync, FRead, FWrite, FAtomic, FMulti, Load, Store, FlushVerify, PoisonBlock, PoisonFile, PoisonVolume, ClearFile, ClearVolume, Cut, Recover, Restart, ListFiles, NextEvent};
 ghost use Rattle.script_text.specs.Script.{Input, inputs};
 ghost use Rattle.script_text.specs.Script.Input.{Asked};
 ghost use Rattle.line_device.specs.declared.line.Choice.{Choice};
@@ -31,7 +31,7 @@ ghost use Rattle.machine_model.specs.OnPages.{pages_named};
 ghost use Rattle.machine_model.specs.Restarting.{reading};
 ghost use Rattle.machine_model.specs.Commands.{early_refusal, meaning};
 ghost use Rattle.machine_model.specs.Run.{Hears, Transcript, Run};
-ghost use Rattle.durable.specs.Mapped.{but_for_copies, commands_begun, exchanges, mappings_after};
+ghost use Rattle.durable.specs.Mapped.{AreWithin, but_for_copies, commands_begun, exchanges, mappings_after};
 ghost use Rattle.durable.specs.Place.{Place, byte_at_place, is_weak_at, is_weak_line};
 ghost use Rattle.durable.specs.Naming.{Names, NamesLine, NamesLineOf, NamesObstacle, refused_before};
 ghost use Rattle.durable.specs.Place.Place.{of_volume, of_blocks, of_file};
@@ -51,8 +51,8 @@ pub fn what_was_made_durable_stays()
     ensures scripts { (script : List ℕ) → BringBytes (inputs script) }
 {}
 
-/// The bytes that were written are the ones that last: those of a write of blocks, those of a store to the volume or in a file that
-/// is then made durable, but in a weak line that is made so in place, and the zeros of a line that is cleared; and at once those of a
+/// The bytes that were written are the ones that last: those of a write of blocks, those of a store to the volume, in a file or through
+/// a mapping of it that is then made durable, but in a weak line that is made so in place, and the zeros of a line that is cleared; and at once those of a
 /// write of ranges of a file as a whole, in weak lines too.
 pub fn what_was_written_lasts()
     ensures write { (h next : Machine) (block i : ℕ) (bytes : List ℕ) → Does h (BWrite block bytes) next
@@ -78,6 +78,10 @@ pub fn what_was_written_lasts()
         → BringsBytes action → Does h (FWrite name offset bytes) stored → Finishes stored action next
         → is_made_durable stored action (of_file name i) ≡ true → is_among offset (length bytes) i ≡ true → KeepsByte stored action (of_file name i)
         → Lasts next (of_file name i) (Some (slice_index bytes (i - offset))) }
+    ensures through_a_mapping { (h stored next : Machine) (handle offset i : ℕ) (bytes : List ℕ) (m : Mapping) (action : Action) → BringsBytes (Store handle offset bytes)
+        → BringsBytes action → IsShown h handle m → AreWithin h.mappings h.files → Does h (Store handle offset bytes) stored
+        → Finishes stored action next → is_made_durable stored action (of_file m.name i) ≡ true → is_among (m.start + offset) (length bytes) i ≡ true
+        → KeepsByte stored action (of_file m.name i) → Lasts next (of_file m.name i) (Some (slice_index bytes (i - (m.start + offset)))) }
     ensures cleared_in_file { (h next : Machine) (name : List ℕ) (offset i : ℕ) → Does h (ClearFile name offset) next → i / 64 ≡ offset / 64
         → Lasts next (of_file name i) (Some 0) }
     ensures in_one_range { (h next : Machine) (name : List ℕ) (offset i : ℕ) (bytes : List ℕ) → BringsBytes (FAtomic name offset bytes)
@@ -226,9 +230,11 @@ pub fn media_errors_are_told_once()
 {}
 
 /// Which handle is of which file is told by the commands and their answers: the mappings of each later state are those, but for the
-/// bytes of copies.
+/// bytes of copies. Each lies within its file.
 pub fn what_is_mapped_is_told()
-    ensures { (h later : Machine) (inputs : List Input) (said : Transcript) → Run h inputs said later
+    ensures within { (h later : Machine) (inputs : List Input) (said : Transcript) → AreWithin h.mappings h.files → Run h inputs said later
+        → AreWithin later.mappings later.files }
+    ensures told { (h later : Machine) (inputs : List Input) (said : Transcript) → Run h inputs said later
         → but_for_copies later.mappings ≡ but_for_copies (mappings_after h.mappings (exchanges inputs said.answers)) }
 {}
 
