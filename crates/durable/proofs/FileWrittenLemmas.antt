@@ -147,6 +147,15 @@ stored_in_powered h stored name at i bytes small stores among strong =
     (lasts_powered stored (of_file name i) (whole-heard h (Asked (FWrite name at bytes)) stores.said stored stores.whole stores.came)
     (ap (λ m. m.mode) put_is.1 ∙ is_on h (FWrite name at bytes) refl put_is.0) strong)
 
+pub mapped_powered : (h stored : Machine) (handle offset i : ℕ) (bytes : List ℕ) (m : Mapping) → ((k : ℕ) → get_or bytes k 0 < 256) → IsShown h handle m → AreWithin h.mappings h.files
+    → Does h (Store handle offset bytes) stored → is_among (m.start + offset) (length bytes) i ≡ true → is_weak_line (cell_of (pages_named m.name stored.files) (i / 64)) ≡ false
+    → LastsPowered stored (of_file m.name i) (Some (slice_index bytes (i - (m.start + offset))))
+mapped_powered h stored handle offset i bytes m small shows within stores among strong =
+    let done = works_done h (Store handle offset bytes) (record h { files = stored_in m.name (m.start + offset) bytes h.files }) stored (store_comes h handle offset bytes m shows) stores in
+    subst (LastsPowered stored (of_file m.name i)) (mapped_shown h stored handle offset i bytes m small shows within stores among)
+    (lasts_powered stored (of_file m.name i) (whole-heard h (Asked (Store handle offset bytes)) stores.said stored stores.whole stores.came)
+    (ap (λ s. s.mode) done.1 ∙ is_on h (Store handle offset bytes) refl done.0) strong)
+
 -- a line that was flushed shows what it had
 flushed_shown : (i byte : ℕ) (old new : List Page) → LineFlushed i old new → is_weak_line (cell_of old (i / 64)) ≡ false → line_has (cell_of old (i / 64)) (i % 64) ≡ Some byte
     → line_has (cell_of new (i / 64)) (i % 64) ≡ Some byte

@@ -32,31 +32,54 @@ mapped lines answers = mappings_after [] (exchanges (inputs (text lines)) answer
 
 -- two lines of a file, each stored and flushed
 abbrev pub two_lines : List Begun
-two_lines = begins (codes "create a 1" ∷ codes "map a 0 4096 shared" ∷ codes "store 0 0 ff*8" ∷ codes "flush 0 0 8" ∷ codes "store 0 64 ff*8" ∷ codes "flush 0 64 8" ∷ []) []
+two_lines =
+    begins
+    (codes "create a 1" ∷ codes "map a 0 4096 shared" ∷ codes "store 0 0 ff*8" ∷ codes "flush 0 0 8" ∷ codes "store 0 64 ff*8" ∷ codes "flush 0 64 8"
+    ∷ [])
+    []
 
 -- a private mapping of it, and one of a part of it
 abbrev pub copy_and_part : List Begun
-copy_and_part = begins (codes "create a 1" ∷ codes "map a 0 4096 private" ∷ codes "map a 64 128 shared" ∷ codes "store 0 0 ff*8" ∷ codes "flush 0 0 8" ∷ codes "store 1 0 ff*8" ∷ codes "flush 1 0 8" ∷ []) []
+copy_and_part =
+    begins
+    (codes "create a 1" ∷ codes "map a 0 4096 private" ∷ codes "map a 64 128 shared" ∷ codes "store 0 0 ff*8" ∷ codes "flush 0 0 8"
+    ∷ codes "store 1 0 ff*8" ∷ codes "flush 1 0 8" ∷ [])
+    []
 
 -- handles of two files, of which one is taken
 abbrev pub two_files_mapped : List Begun
-two_files_mapped = begins (codes "create a 1" ∷ codes "create b 1" ∷ codes "map a 0 64 shared" ∷ codes "map b 0 64 shared" ∷ codes "store 1 0 ff" ∷ codes "flush 1 0 1" ∷ codes "unmap 1" ∷ codes "store 1 0 ff" ∷ []) []
+two_files_mapped =
+    begins
+    (codes "create a 1" ∷ codes "create b 1" ∷ codes "map a 0 64 shared" ∷ codes "map b 0 64 shared" ∷ codes "store 1 0 ff" ∷ codes "flush 1 0 1"
+    ∷ codes "unmap 1" ∷ codes "store 1 0 ff" ∷ [])
+    []
 
 -- a handle that is of another file after a restart
 abbrev pub mapped_anew : List Begun
-mapped_anew = begins (codes "create a 1" ∷ codes "map a 0 64 shared" ∷ codes "cut" ∷ codes "restart all" ∷ codes "create b 1" ∷ codes "map b 0 64 shared" ∷ codes "store 0 0 ff" ∷ codes "flush 0 0 1" ∷ [])
+mapped_anew =
+    begins
+    (codes "create a 1" ∷ codes "map a 0 64 shared" ∷ codes "cut" ∷ codes "restart all" ∷ codes "create b 1" ∷ codes "map b 0 64 shared"
+    ∷ codes "store 0 0 ff" ∷ codes "flush 0 0 1" ∷ [])
     (record { choice = Lasts; image = zero_image 5056 } ∷ [])
 
 pub record MappedRows : Type 0 where
-  pub first_line : (changing (codes "a") 0 two_lines ≡ true ∷ true ∷ false ∷ false ∷ false ∷ []) × (covering (codes "a") 0 two_lines ≡ false ∷ false ∷ true ∷ false ∷ false ∷ [])
-  pub second_line : (changing (codes "a") 64 two_lines ≡ true ∷ false ∷ false ∷ true ∷ false ∷ []) × (covering (codes "a") 64 two_lines ≡ false ∷ false ∷ false ∷ false ∷ true ∷ [])
-  pub copy_of_a_file : (changing (codes "a") 0 copy_and_part ≡ true ∷ false ∷ false ∷ false ∷ false ∷ []) × (covering (codes "a") 0 copy_and_part ≡ false ∷ false ∷ false ∷ false ∷ false ∷ [])
-  pub part_of_a_file : (changing (codes "a") 64 copy_and_part ≡ true ∷ false ∷ false ∷ true ∷ false ∷ []) × (covering (codes "a") 64 copy_and_part ≡ false ∷ false ∷ false ∷ false ∷ true ∷ [])
-  pub one_file : (changing (codes "a") 0 two_files_mapped ≡ true ∷ false ∷ false ∷ false ∷ false ∷ []) × (covering (codes "a") 0 two_files_mapped ≡ false ∷ false ∷ false ∷ false ∷ false ∷ [])
-  pub another_file : (changing (codes "b") 0 two_files_mapped ≡ false ∷ true ∷ true ∷ false ∷ false ∷ []) × (covering (codes "b") 0 two_files_mapped ≡ false ∷ false ∷ false ∷ true ∷ false ∷ [])
+  pub first_line_stored : changing (codes "a") 0 two_lines ≡ true ∷ true ∷ false ∷ false ∷ false ∷ []
+  pub first_line_flushed : covering (codes "a") 0 two_lines ≡ false ∷ false ∷ true ∷ false ∷ false ∷ []
+  pub second_line_stored : changing (codes "a") 64 two_lines ≡ true ∷ false ∷ false ∷ true ∷ false ∷ []
+  pub second_line_flushed : covering (codes "a") 64 two_lines ≡ false ∷ false ∷ false ∷ false ∷ true ∷ []
+  pub copy_stored : changing (codes "a") 0 copy_and_part ≡ true ∷ false ∷ false ∷ false ∷ false ∷ []
+  pub copy_flushed : covering (codes "a") 0 copy_and_part ≡ false ∷ false ∷ false ∷ false ∷ false ∷ []
+  pub part_stored : changing (codes "a") 64 copy_and_part ≡ true ∷ false ∷ false ∷ true ∷ false ∷ []
+  pub part_flushed : covering (codes "a") 64 copy_and_part ≡ false ∷ false ∷ false ∷ false ∷ true ∷ []
+  pub one_file_stored : changing (codes "a") 0 two_files_mapped ≡ true ∷ false ∷ false ∷ false ∷ false ∷ []
+  pub one_file_flushed : covering (codes "a") 0 two_files_mapped ≡ false ∷ false ∷ false ∷ false ∷ false ∷ []
+  pub another_file_stored : changing (codes "b") 0 two_files_mapped ≡ false ∷ true ∷ true ∷ false ∷ false ∷ []
+  pub another_file_flushed : covering (codes "b") 0 two_files_mapped ≡ false ∷ false ∷ false ∷ true ∷ false ∷ []
   pub before_a_restart : changing (codes "a") 0 mapped_anew ≡ true ∷ false ∷ false ∷ false ∷ false ∷ []
-  pub after_a_restart : (changing (codes "b") 0 mapped_anew ≡ false ∷ false ∷ true ∷ true ∷ false ∷ []) × (covering (codes "b") 0 mapped_anew ≡ false ∷ false ∷ false ∷ false ∷ true ∷ [])
-  pub recovery_interrupted : mapped (codes "map a 0 64 shared" ∷ codes "store 0 0 ff" ∷ codes "recover" ∷ []) (Handle 7 ∷ DeviceFailed ∷ DeviceFailed ∷ [])
+  pub stored_after_a_restart : changing (codes "b") 0 mapped_anew ≡ false ∷ false ∷ true ∷ true ∷ false ∷ []
+  pub flushed_after_a_restart : covering (codes "b") 0 mapped_anew ≡ false ∷ false ∷ false ∷ false ∷ true ∷ []
+  pub recovery_interrupted :
+      mapped (codes "map a 0 64 shared" ∷ codes "store 0 0 ff" ∷ codes "recover" ∷ []) (Handle 7 ∷ DeviceFailed ∷ DeviceFailed ∷ [])
       ≡ mapping_told 7 (codes "a") (record { start = 0; len = 64 }) Shared ∷ []
   pub recovered : mapped (codes "map a 0 64 shared" ∷ codes "store 0 0 ff" ∷ codes "recover" ∷ []) (Handle 7 ∷ DeviceFailed ∷ DoneBad 0 ∷ []) ≡ []
   pub restart_interrupted : mapped (codes "map a 0 64 shared" ∷ codes "cut" ∷ codes "restart all" ∷ []) (Handle 7 ∷ Done ∷ PowerLost ∷ []) ≡ []

@@ -1,6 +1,5 @@
 -- Which bytes a command makes durable, which it changes, of which it makes the line bad or weak, and which it keeps from mounts.
-use Rattle.std.specs.Prelude.{◌+◌, ◌*◌, ◌/◌, ◌&&◌, ℕ, Bool, true, false, List, [], ◌∷◌, length}
-use Rattle.nvm_base.specs.declared.units.Span.{Span}
+use Rattle.std.specs.Prelude.{◌+◌, ◌*◌, ◌/◌, ◌&&◌, Bool, true, false, List, [], ◌∷◌, length}
 use Rattle.nvm_model.specs.Storage.{Mapping}
 use Rattle.block_device.specs.Refusals.{block_spans}
 use Rattle.file_actions.specs.Refusals.{all_bytes}
@@ -33,65 +32,61 @@ anew region = record { region = region; worn = false }
 abbrev pub wears_out : Covered → Place → Bool
 wears_out covered x = covered.worn && holds covered.region x
 
--- What is durable once a command is done on storage of these sizes: the blocks that it writes, the lines that it syncs, one that it
--- clears, those that it flushes through a handle, of which this region is told, and the pages that it writes as a whole.
-abbrev pub covered_by : (ℕ → List Span → Region) → Geometry → Action → Covered
-covered_by flushed geo (BRead block count) = uncovered
-covered_by flushed geo (BWrite block bytes) = in_place (spanned (blocks_from block (length bytes / 512)))
-covered_by flushed geo (BAtomic block bytes) = in_place (spanned (blocks_from block (length bytes / 512)))
-covered_by flushed geo (BMulti ranges bytes) = in_place (spanned (block_spans ranges))
-covered_by flushed geo (BDiscard block count) = uncovered
-covered_by flushed geo (BDiscardIf block count) = uncovered
-covered_by flushed geo (BExists block) = uncovered
-covered_by flushed geo (BScar ranges) = uncovered
-covered_by flushed geo (VLoad offset len) = uncovered
-covered_by flushed geo (VStore offset bytes) = uncovered
-covered_by flushed geo (VSync offset len) = in_place (touched_lines offset len)
-covered_by flushed geo VRanges = uncovered
-covered_by flushed geo (VPSync address len) = in_place (touched_lines_at (physical_offset geo address len) len)
-covered_by flushed geo (VDiscard page count) = uncovered
-covered_by flushed geo (VDiscardIf page count) = uncovered
-covered_by flushed geo (VExists page) = uncovered
-covered_by flushed geo (Create name pages) = uncovered
-covered_by flushed geo (Delete name) = uncovered
-covered_by flushed geo (Rename name to) = uncovered
-covered_by flushed geo (Resize name pages) = uncovered
-covered_by flushed geo ListFiles = uncovered
-covered_by flushed geo (FRead name offset len) = uncovered
-covered_by flushed geo (FWrite name offset bytes) = uncovered
-covered_by flushed geo (FAtomic name offset bytes) = anew (rewritten_bytes name (record { start = offset; len = length bytes } ∷ []))
-covered_by flushed geo (FMulti name ranges bytes) = anew (rewritten_bytes name ranges)
-covered_by flushed geo (FDiscard name page count) = uncovered
-covered_by flushed geo (FSync name) = in_place (flushed_lines name all_bytes)
-covered_by flushed geo (Map name span kind) = uncovered
-covered_by flushed geo (Unmap handle) = uncovered
-covered_by flushed geo (Load handle offset len) = uncovered
-covered_by flushed geo (Store handle offset bytes) = uncovered
-covered_by flushed geo (Sync handle offset len) = in_place (flushed handle (record { start = offset; len = len } ∷ []))
-covered_by flushed geo (Flush handle spans) = in_place (flushed handle spans)
-covered_by flushed geo (FlushVerify handle spans) = in_place (flushed handle spans)
-covered_by flushed geo (DeepFlush handle spans) = in_place (flushed handle spans)
-covered_by flushed geo NextEvent = uncovered
-covered_by flushed geo (CheckFile name offset len) = uncovered
-covered_by flushed geo (PoisonBlock block line) = uncovered
-covered_by flushed geo (PoisonVolume offset) = uncovered
-covered_by flushed geo (PoisonFile name offset) = uncovered
-covered_by flushed geo (PoisonMeta line) = uncovered
-covered_by flushed geo (WeakenFile name offset) = uncovered
-covered_by flushed geo (WeakenVolume offset) = uncovered
-covered_by flushed geo (ClearFile name offset) = in_place (line_of_file name (offset / 64))
-covered_by flushed geo (ClearVolume offset) = in_place (line_of_volume (offset / 64))
-covered_by flushed geo Cut = uncovered
-covered_by flushed geo (CutIn calls) = uncovered
-covered_by flushed geo (FailIn calls) = uncovered
-covered_by flushed geo (Restart choice) = uncovered
-covered_by flushed geo Recover = uncovered
-covered_by flushed geo (Attr name) = uncovered
-covered_by flushed geo (Evict lines) = uncovered
-
--- so where the mappings are these
+-- What is durable once a command is done on storage of these sizes, where the mappings are these: the blocks that it writes, the lines
+-- that it syncs, one that it clears, those that it flushes through a handle, and the pages that it writes as a whole.
 abbrev pub made_durable : Geometry → List Mapping → Action → Covered
-made_durable geo mappings action = covered_by (flushed_through mappings) geo action
+made_durable geo mappings (BRead block count) = uncovered
+made_durable geo mappings (BWrite block bytes) = in_place (spanned (blocks_from block (length bytes / 512)))
+made_durable geo mappings (BAtomic block bytes) = in_place (spanned (blocks_from block (length bytes / 512)))
+made_durable geo mappings (BMulti ranges bytes) = in_place (spanned (block_spans ranges))
+made_durable geo mappings (BDiscard block count) = uncovered
+made_durable geo mappings (BDiscardIf block count) = uncovered
+made_durable geo mappings (BExists block) = uncovered
+made_durable geo mappings (BScar ranges) = uncovered
+made_durable geo mappings (VLoad offset len) = uncovered
+made_durable geo mappings (VStore offset bytes) = uncovered
+made_durable geo mappings (VSync offset len) = in_place (touched_lines offset len)
+made_durable geo mappings VRanges = uncovered
+made_durable geo mappings (VPSync address len) = in_place (touched_lines_at (physical_offset geo address len) len)
+made_durable geo mappings (VDiscard page count) = uncovered
+made_durable geo mappings (VDiscardIf page count) = uncovered
+made_durable geo mappings (VExists page) = uncovered
+made_durable geo mappings (Create name pages) = uncovered
+made_durable geo mappings (Delete name) = uncovered
+made_durable geo mappings (Rename name to) = uncovered
+made_durable geo mappings (Resize name pages) = uncovered
+made_durable geo mappings ListFiles = uncovered
+made_durable geo mappings (FRead name offset len) = uncovered
+made_durable geo mappings (FWrite name offset bytes) = uncovered
+made_durable geo mappings (FAtomic name offset bytes) = anew (rewritten_bytes name (record { start = offset; len = length bytes } ∷ []))
+made_durable geo mappings (FMulti name ranges bytes) = anew (rewritten_bytes name ranges)
+made_durable geo mappings (FDiscard name page count) = uncovered
+made_durable geo mappings (FSync name) = in_place (flushed_lines name all_bytes)
+made_durable geo mappings (Map name span kind) = uncovered
+made_durable geo mappings (Unmap handle) = uncovered
+made_durable geo mappings (Load handle offset len) = uncovered
+made_durable geo mappings (Store handle offset bytes) = uncovered
+made_durable geo mappings (Sync handle offset len) = in_place (flushed_through mappings handle (record { start = offset; len = len } ∷ []))
+made_durable geo mappings (Flush handle spans) = in_place (flushed_through mappings handle spans)
+made_durable geo mappings (FlushVerify handle spans) = in_place (flushed_through mappings handle spans)
+made_durable geo mappings (DeepFlush handle spans) = in_place (flushed_through mappings handle spans)
+made_durable geo mappings NextEvent = uncovered
+made_durable geo mappings (CheckFile name offset len) = uncovered
+made_durable geo mappings (PoisonBlock block line) = uncovered
+made_durable geo mappings (PoisonVolume offset) = uncovered
+made_durable geo mappings (PoisonFile name offset) = uncovered
+made_durable geo mappings (PoisonMeta line) = uncovered
+made_durable geo mappings (WeakenFile name offset) = uncovered
+made_durable geo mappings (WeakenVolume offset) = uncovered
+made_durable geo mappings (ClearFile name offset) = in_place (line_of_file name (offset / 64))
+made_durable geo mappings (ClearVolume offset) = in_place (line_of_volume (offset / 64))
+made_durable geo mappings Cut = uncovered
+made_durable geo mappings (CutIn calls) = uncovered
+made_durable geo mappings (FailIn calls) = uncovered
+made_durable geo mappings (Restart choice) = uncovered
+made_durable geo mappings Recover = uncovered
+made_durable geo mappings (Attr name) = uncovered
+made_durable geo mappings (Evict lines) = uncovered
 
 -- What a command writes, discards, scars, stores or clears, where the mappings are these; and all of a file that it makes, renames,
 -- resizes or deletes.

@@ -23,7 +23,8 @@ with_files lines =
 pub record WornRows : Type 0 where
   pub weak_and_then_flushed : worn (of_file (codes "a") 0) (with_files (codes "weaken file a 0" ∷ codes "flush 0 0 1" ∷ [])) ≡ true
   pub flushed_and_then_weak : worn (of_file (codes "a") 0) (with_files (codes "flush 0 0 1" ∷ codes "weaken file a 0" ∷ [])) ≡ false
-  pub flushed_before_and_after : worn (of_file (codes "a") 0) (with_files (codes "flush 0 0 1" ∷ codes "weaken file a 0" ∷ codes "load 0 0 1" ∷ codes "sync 0 0 1" ∷ [])) ≡ true
+  pub flushed_before_and_after :
+      worn (of_file (codes "a") 0) (with_files (codes "flush 0 0 1" ∷ codes "weaken file a 0" ∷ codes "load 0 0 1" ∷ codes "sync 0 0 1" ∷ [])) ≡ true
   pub another_line : worn (of_file (codes "a") 0) (with_files (codes "weaken file a 0" ∷ codes "flush 0 64 1" ∷ [])) ≡ false
   pub another_line_weak : worn (of_file (codes "a") 0) (with_files (codes "weaken file a 64" ∷ codes "flush 0 0 1" ∷ [])) ≡ false
   pub another_file : worn (of_file (codes "a") 0) (with_files (codes "weaken file a 0" ∷ codes "flush 1 0 1" ∷ codes "fsync b" ∷ [])) ≡ false
@@ -33,5 +34,6 @@ pub record WornRows : Type 0 where
   pub beside_it : worn (of_volume 63) (codes "vstore 0 01*128" ∷ codes "weaken volume 64" ∷ codes "vsync 0 65" ∷ []) ≡ false
   pub flush_interrupted :
       is_worn small (of_file (codes "a") 0) false
-      (commands_begun [] (inputs (text (codes "map a 0 64 shared" ∷ codes "weaken file a 0" ∷ codes "flush 0 0 1" ∷ []))) (Handle 0 ∷ Done ∷ PowerLost ∷ []))
+      (commands_begun [] (inputs (text (codes "map a 0 64 shared" ∷ codes "weaken file a 0" ∷ codes "flush 0 0 1" ∷ [])))
+      (Handle 0 ∷ Done ∷ PowerLost ∷ []))
       ≡ true

@@ -105,6 +105,10 @@ pub fn what_is_there_stays_while_powered()
         → Does h (FWrite name offset bytes) stored → is_among offset (length bytes) i ≡ true
         → is_weak_line (cell_of (pages_named name stored.files) (i / 64)) ≡ false
         → LastsPowered stored (of_file name i) (Some (slice_index bytes (i - offset))) }
+    ensures through_a_mapping { (h stored : Machine) (handle offset i : ℕ) (bytes : List ℕ) (m : Mapping) → BringsBytes (Store handle offset bytes)
+        → IsShown h handle m → AreWithin h.mappings h.files → Does h (Store handle offset bytes) stored → is_among (m.start + offset) (length bytes) i ≡ true
+        → is_weak_line (cell_of (pages_named m.name stored.files) (i / 64)) ≡ false
+        → LastsPowered stored (of_file m.name i) (Some (slice_index bytes (i - (m.start + offset)))) }
 {}
 
 /// A line that is poisoned is lost at once, and so is one that was weak when it was synced or flushed, though the answer is `ok`.

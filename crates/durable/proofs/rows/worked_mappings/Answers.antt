@@ -23,14 +23,21 @@ use Rattle.durable.proofs.rows.worked_mappings.Goals as goal
 pub returns-clause-mapped : goal.returns-clause-mapped
 unfolding digits word_from byte_over word_over reaches number_of runs_of data_within data_text change_line fill put first_bad_line first_uncovered_line look read_pages words_read lines_of words_of command_action line_input refusal size first_line total_lines volume_line reading restart_events bad_numbers states_read blocks_read listed files_read file_words tables_of slots_of bytes_in bad_touched next_bad_touched persist_spans
 returns-clause-mapped c = record {
-  first_line = (refl, refl);
-  second_line = (refl, refl);
-  copy_of_a_file = (refl, refl);
-  part_of_a_file = (refl, refl);
-  one_file = (refl, refl);
-  another_file = (refl, refl);
+  first_line_stored = refl;
+  first_line_flushed = refl;
+  second_line_stored = refl;
+  second_line_flushed = refl;
+  copy_stored = refl;
+  copy_flushed = refl;
+  part_stored = refl;
+  part_flushed = refl;
+  one_file_stored = refl;
+  one_file_flushed = refl;
+  another_file_stored = refl;
+  another_file_flushed = refl;
   before_a_restart = refl;
-  after_a_restart = (refl, refl);
+  stored_after_a_restart = refl;
+  flushed_after_a_restart = refl;
   recovery_interrupted = refl;
   recovered = refl;
   restart_interrupted = refl;
