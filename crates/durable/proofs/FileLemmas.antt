@@ -19,7 +19,7 @@ use Rattle.machine_model.specs.Meaning.{FilesLeft}
 use Rattle.machine_model.specs.Meaning.FilesLeft.{Unchanged, OldOrNew, StoredInPart, SyncedInPart}
 use Rattle.machine_model.specs.Run.{Hears, Run, Takes, Transcript}
 use Rattle.durable.specs.Touching.{is_begun}
-use Rattle.durable.specs.Mapped.{Begun, commands_begun, mappings_then}
+use Rattle.durable.specs.Mapped.{Begun, but_for_copies, commands_begun, mappings_then}
 use Rattle.durable.specs.Durable.{Does, HasNothing, IsComplete, IsDone, NoneBegun}
 use Rattle.durable.specs.Files.{BreaksOff, FilesLast, FilesSettle, FilesThrough, IsStopped, LeavesFiles, changes_files, files_after, files_listed}
 use Rattle.durable.proofs.StepKinds.{Step, Stops}
@@ -28,7 +28,7 @@ use Rattle.durable.proofs.StepLemmas.{nothing_run, step_of}
 use Rattle.durable.proofs.EntryLemmas.{entries_made, entries_read, entries_same, files_meant, may_spans-length}
 use Rattle.durable.proofs.KeepLemmas.{done_begun, stop_begun}
 use Rattle.durable.proofs.LawLemmas.{came_of, finishes}
-use Rattle.durable.proofs.MappedLemmas.{none-asked}
+use Rattle.durable.proofs.MappedLemmas.{begun_on, none-asked}
 use Rattle.durable.proofs.PassLemmas.{pass}
 use Rattle.durable.proofs.RefusalLemmas.{is_on, refused_told}
 use Rattle.durable.proofs.RefusedAnswerLemmas.{is_refused}
@@ -86,35 +86,35 @@ module _ (P : List FileEntry → Type 0) where
   lists_step h action answer next spares lists (empties covers to) = inr to.nothing
 
   lists_heard : (input : Input) (inputs : List Input) (h next : Machine) (mappings : List Mapping) (first : Transcript) (answers : List Answer) → Hears h input first next
-      → NoneBegun (λ (c : Begun). changes_files c.action) (commands_begun mappings (input ∷ inputs) (first.answers ++ answers)) → Lists h
-      → (Lists next ⊎ HasNothing next) × ((told : List Mapping) × NoneBegun (λ (c : Begun). changes_files c.action) (commands_begun told inputs answers))
+      → NoneBegun (λ (c : Begun). changes_files c.action) (begun_on mappings (input ∷ inputs) (first.answers ++ answers)) → Lists h
+      → (Lists next ⊎ HasNothing next) × ((told : List Mapping) × NoneBegun (λ (c : Begun). changes_files c.action) (begun_on told inputs answers))
   lists_heard Skipped inputs h next mappings first answers heard none lists =
-      (inl (subst Lists (sym heard.1) lists), (mappings, subst (λ (s : Transcript). NoneBegun (λ (c : Begun). changes_files c.action) (commands_begun mappings inputs (s.answers ++ answers))) heard.0 none))
+      (inl (subst Lists (sym heard.1) lists), (mappings, subst (λ (s : Transcript). NoneBegun (λ (c : Begun). changes_files c.action) (begun_on mappings inputs (s.answers ++ answers))) heard.0 none))
   lists_heard Malformed inputs h next mappings first answers heard none lists = (
     inl (subst Lists (sym heard.1) lists),
-    (mappings, subst (λ (s : Transcript). NoneBegun (λ (c : Begun). changes_files c.action) (commands_begun mappings (Malformed ∷ inputs) (s.answers ++ answers))) heard.0 none),
+    (mappings, subst (λ (s : Transcript). NoneBegun (λ (c : Begun). changes_files c.action) (begun_on mappings (Malformed ∷ inputs) (s.answers ++ answers))) heard.0 none),
   )
   lists_heard Overlong inputs h next mappings first answers heard none lists = (
     inl (subst Lists (sym heard.1) lists),
-    (mappings, subst (λ (s : Transcript). NoneBegun (λ (c : Begun). changes_files c.action) (commands_begun mappings (Overlong ∷ inputs) (s.answers ++ answers))) heard.0 none),
+    (mappings, subst (λ (s : Transcript). NoneBegun (λ (c : Begun). changes_files c.action) (begun_on mappings (Overlong ∷ inputs) (s.answers ++ answers))) heard.0 none),
   )
   lists_heard (Asked action) inputs h next mappings first answers heard none lists =
       let taken = step_of h action first next heard in
       let each = none-asked (λ (c : Begun). changes_files c.action) mappings action inputs first taken.answer answers taken.answers none in
       (lists_step h action taken.answer next each.0 lists taken.step, (mappings_then mappings action taken.answer, each.1))
 
-  lists_run : (inputs : List Input) (h later : Machine) (mappings : List Mapping) (said : Transcript) → Run h inputs said later → NoneBegun (λ (c : Begun). changes_files c.action) (commands_begun mappings inputs said.answers)
+  lists_run : (inputs : List Input) (h later : Machine) (mappings : List Mapping) (said : Transcript) → Run h inputs said later → NoneBegun (λ (c : Begun). changes_files c.action) (begun_on mappings inputs said.answers)
       → Lists h ⊎ HasNothing h → Lists later ⊎ HasNothing later
   lists_run inputs h later mappings said run none (inr nothing) = inr (nothing_run h later inputs said nothing run)
   lists_run [] h later mappings said run none (inl lists) = inl (subst Lists (sym run.1) lists)
   lists_run (input ∷ inputs) h later mappings said run none (inl lists) =
-      let split = subst (λ (s : Transcript). NoneBegun (λ (c : Begun). changes_files c.action) (commands_begun mappings (input ∷ inputs) s.answers)) run.3 none in
+      let split = subst (λ (s : Transcript). NoneBegun (λ (c : Begun). changes_files c.action) (begun_on mappings (input ∷ inputs) s.answers)) run.3 none in
       let heard = lists_heard input inputs h run.2 mappings run.0 run.1.answers run.4 split lists in
       lists_run inputs run.2 later heard.1.0 run.1 run.5 heard.1.1 heard.0
 
   listed_later : (inputs : List Input) (h later : Machine) (said : Transcript) → Run h inputs said later
       → NoneBegun (λ (c : Begun). changes_files c.action) (commands_begun h.mappings inputs said.answers) → Lists h → P (files_listed later) ⊎ HasNothing later
-  listed_later inputs h later said run none lists = elim (lists_run inputs h later h.mappings said run none (inl lists)) as (λ _. P (files_listed later) ⊎ HasNothing later) [
+  listed_later inputs h later said run none lists = elim (lists_run inputs h later (but_for_copies h.mappings) said run none (inl lists)) as (λ _. P (files_listed later) ⊎ HasNothing later) [
     | inl ls ↦ inl ls.now
     | inr nothing ↦ inr nothing
   ]

@@ -35,7 +35,7 @@ use Rattle.durable.proofs.StepKinds.{Alters, CoversNothing, Step}
 use Rattle.durable.proofs.SuitLemmas.{nowhere}
 use Rattle.durable.proofs.StepLemmas.{geometry_run, geometry_step, nothing_run, step_of}
 use Rattle.durable.proofs.StepKinds.Step.{idles, alters, stops, returns, remounts, empties}
-use Rattle.durable.proofs.MappedLemmas.{AreAlike, alike_then, changed_alike, durable_alike, mappings-heard, none-asked, not_begun}
+use Rattle.durable.proofs.MappedLemmas.{AreAlike, alike_then, begun_on, changed_alike, durable_alike, mappings-heard, none-asked, not_begun, once}
 use Rattle.durable.proofs.LineLemmas.{HasOrLost, LineKeeps, MayBe}
 use Rattle.durable.proofs.VolumeLemmas.{VolumeKeeps, there-kept}
 use Rattle.durable.proofs.SparedLemmas.{KeptBy, SparedBy}
@@ -125,8 +125,8 @@ abbrev pub SparesOr : (List Mapping → Action → Place → Bool) → Type 0 �
 SparesOr does may x commands = Spares does x commands ⊎ may
 
 may-asked : (does : List Mapping → Action → Place → Bool) (may : Type 0) (mappings : List Mapping) (action : Action) (inputs : List Input) (first : Transcript) (answer : Answer) (answers : List Answer)
-    (x : Place) → first.answers ≡ answer ∷ [] → SparesOr does may x (commands_begun mappings (Asked action ∷ inputs) (first.answers ++ answers))
-    → (is_begun answer ≡ true → does mappings action x ≡ true → may) × SparesOr does may x (commands_begun (mappings_then mappings action answer) inputs answers)
+    (x : Place) → first.answers ≡ answer ∷ [] → SparesOr does may x (begun_on mappings (Asked action ∷ inputs) (first.answers ++ answers))
+    → (is_begun answer ≡ true → does mappings action x ≡ true → may) × SparesOr does may x (begun_on (mappings_then mappings action answer) inputs answers)
 may-asked does may mappings action inputs first answer answers x is (inl spares) =
     let each = none-asked (λ (c : Begun). does c.mappings c.action x) mappings action inputs first answer answers is spares in
     (λ begun did. absurd (both_ways _ (each.0 begun) did), inl each.1)
@@ -182,22 +182,22 @@ module _ (lost cut : Bool) where
 
   -- and of the rest
   allowed-asked : (geo : Geometry) (mappings : List Mapping) (action : Action) (inputs : List Input) (first : Transcript) (answer : Answer) (answers : List Answer) (x : Place) (weak : Bool)
-      → first.answers ≡ answer ∷ [] → Allowed geo x weak (commands_begun mappings (Asked action ∷ inputs) (first.answers ++ answers))
-      → AllowsAsked geo mappings action answer x weak × Allowed geo x (weak_then weak (is_begun answer) action x) (commands_begun (mappings_then mappings action answer) inputs answers)
+      → first.answers ≡ answer ∷ [] → Allowed geo x weak (begun_on mappings (Asked action ∷ inputs) (first.answers ++ answers))
+      → AllowsAsked geo mappings action answer x weak × Allowed geo x (weak_then weak (is_begun answer) action x) (begun_on (mappings_then mappings action answer) inputs answers)
   allowed-asked geo mappings action inputs first answer answers x weak is all =
       let change = none-asked (λ (c : Begun). changes c.mappings c.action x) mappings action inputs first answer answers is all.0 in
       let poison = may-asked (λ ms. poisons) (lost ≡ true) mappings action inputs first answer answers x is all.1 in
       let worn = by_worn all.2 in (record { change = change.0; poison = poison.0; worn = worn.0 }, (change.1, poison.1, worn.1))
     where
       rest : List Begun
-      rest = commands_begun (mappings_then mappings action answer) inputs answers
+      rest = begun_on (mappings_then mappings action answer) inputs answers
 
-      by_worn : (is_worn geo x weak (commands_begun mappings (Asked action ∷ inputs) (first.answers ++ answers)) ≡ false) ⊎ (lost ≡ true)
+      by_worn : (is_worn geo x weak (begun_on mappings (Asked action ∷ inputs) (first.answers ++ answers)) ≡ false) ⊎ (lost ≡ true)
           → (is_begun answer ≡ true → ((weak && wears_with geo mappings action x) ≡ false) ⊎ (lost ≡ true)) × ((is_worn geo x (weak_then weak (is_begun answer) action x) rest ≡ false) ⊎ (lost ≡ true))
       by_worn (inr may) = (λ begun. inr may, inr may)
       by_worn (inl none) =
           let parts = worn-begun geo x weak (is_begun answer) (record { action = action; mappings = mappings }) rest
-          (subst (λ s. is_worn geo x weak (commands_begun mappings (Asked action ∷ inputs) (s ++ answers)) ≡ false) is none) in
+          (subst (λ s. is_worn geo x weak (begun_on mappings (Asked action ∷ inputs) (s ++ answers)) ≡ false) is none) in
           (λ begun. inl (parts.0 begun), inl parts.1)
 
   -- what is the same of mappings that are alike
@@ -284,7 +284,7 @@ module _ (lost cut : Bool) where
   -- the mappings are those that were told, and the commands that are left are allowed
   record Follows (h : Machine) (mappings : List Mapping) (weak : Bool) (x : Place) (inputs : List Input) (answers : List Answer) : Type 0 where
     alike : AreAlike h.mappings mappings
-    allowed : Allowed h.geometry x weak (commands_begun mappings inputs answers)
+    allowed : Allowed h.geometry x weak (begun_on mappings inputs answers)
     bytes : BringBytes inputs
 
   -- what was kept, and what is left
@@ -303,8 +303,8 @@ module _ (lost cut : Bool) where
     keeps = inl (subst (λ m. Keeps (since weak) m x v) (sym heard.1) keeps);
     follows = record {
       alike = ap (λ (m : Machine). but_for_copies m.mappings) heard.1 ∙ all.alike;
-      allowed = subst (λ (m : Machine). Allowed m.geometry x weak (commands_begun mappings inputs answers)) (sym heard.1)
-          (subst (λ (s : Transcript). Allowed h.geometry x weak (commands_begun mappings inputs (s.answers ++ answers))) heard.0 all.allowed);
+      allowed = subst (λ (m : Machine). Allowed m.geometry x weak (begun_on mappings inputs answers)) (sym heard.1)
+          (subst (λ (s : Transcript). Allowed h.geometry x weak (begun_on mappings inputs (s.answers ++ answers))) heard.0 all.allowed);
       bytes = all.bytes;
     };
   }
@@ -314,8 +314,8 @@ module _ (lost cut : Bool) where
     keeps = inl (subst (λ m. Keeps (since weak) m x v) (sym heard.1) keeps);
     follows = record {
       alike = ap (λ (m : Machine). but_for_copies m.mappings) heard.1 ∙ all.alike;
-      allowed = subst (λ (m : Machine). Allowed m.geometry x weak (commands_begun mappings inputs answers)) (sym heard.1)
-          (subst (λ (s : Transcript). Allowed h.geometry x weak (commands_begun mappings (Malformed ∷ inputs) (s.answers ++ answers))) heard.0 all.allowed);
+      allowed = subst (λ (m : Machine). Allowed m.geometry x weak (begun_on mappings inputs answers)) (sym heard.1)
+          (subst (λ (s : Transcript). Allowed h.geometry x weak (begun_on mappings (Malformed ∷ inputs) (s.answers ++ answers))) heard.0 all.allowed);
       bytes = all.bytes;
     };
   }
@@ -325,8 +325,8 @@ module _ (lost cut : Bool) where
     keeps = inl (subst (λ m. Keeps (since weak) m x v) (sym heard.1) keeps);
     follows = record {
       alike = ap (λ (m : Machine). but_for_copies m.mappings) heard.1 ∙ all.alike;
-      allowed = subst (λ (m : Machine). Allowed m.geometry x weak (commands_begun mappings inputs answers)) (sym heard.1)
-          (subst (λ (s : Transcript). Allowed h.geometry x weak (commands_begun mappings (Overlong ∷ inputs) (s.answers ++ answers))) heard.0 all.allowed);
+      allowed = subst (λ (m : Machine). Allowed m.geometry x weak (begun_on mappings inputs answers)) (sym heard.1)
+          (subst (λ (s : Transcript). Allowed h.geometry x weak (begun_on mappings (Overlong ∷ inputs) (s.answers ++ answers))) heard.0 all.allowed);
       bytes = all.bytes;
     };
   }
@@ -340,7 +340,7 @@ module _ (lost cut : Bool) where
             (allows-alike h.geometry h.mappings mappings action taken.answer x weak all.alike each.0) keeps taken.step;
         follows = record {
           alike = mappings-heard h next action first taken.answer taken.answers heard ∙ alike_then action taken.answer h.mappings mappings all.alike;
-          allowed = subst (λ g. Allowed g x (weak_then weak (is_begun taken.answer) action x) (commands_begun (mappings_then mappings action taken.answer) inputs answers))
+          allowed = subst (λ g. Allowed g x (weak_then weak (is_begun taken.answer) action x) (begun_on (mappings_then mappings action taken.answer) inputs answers))
               (sym (geometry_step h action taken.answer next taken.step)) each.1;
           bytes = all.bytes.1;
         };
@@ -388,7 +388,7 @@ remains cut h x v whole keeps inputs said later bytes run power = record {
 
     kept : (lost : Bool) → Allowed lost cut h.geometry x false commands → HasOrLost lost (byte_at_place later x) v ⊎ HasNothing later
     kept lost all =
-        keeps-run lost cut inputs h later h.mappings false said x v run power (record { alike = refl; allowed = all; bytes = bytes }) (inl (keeps false lost))
+        keeps-run lost cut inputs h later (but_for_copies h.mappings) false said x v run power (record { alike = once h.mappings; allowed = all; bytes = bytes }) (inl (keeps false lost))
 
 pub lasts : (h : Machine) (x : Place) (v : Option ℕ) → IsComplete h → ((since : MayBe) → Keeps since h x v) → Lasts h x v
 lasts h x v whole keeps inputs said later bytes run =

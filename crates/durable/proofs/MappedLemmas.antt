@@ -32,7 +32,7 @@ use Rattle.machine_model.specs.Run.{Hears, Run, Takes, Transcript}
 use Rattle.durable.specs.Region.{flushed_by, flushed_through, stored_by, stored_through}
 use Rattle.durable.specs.Touching.{in_place, is_begun, made_durable, region_changed}
 use Rattle.durable.specs.Durable.{NoneBegun}
-use Rattle.durable.specs.Mapped.{Begun, but_for_copies, commands_begun, exchanges, handle_in, is_done, is_mounted, mapping_told, mappings_after, mappings_then, with_told}
+use Rattle.durable.specs.Mapped.{Begun, all_begun, but_for_copies, exchanges, handle_in, is_done, is_mounted, mapping_told, mappings_after, mappings_then, with_told}
 use Rattle.durable.proofs.HandleLemmas.{of_flush, of_load, of_map, of_store}
 use Rattle.durable.proofs.RefusalLemmas.{refused_told}
 use Rattle.durable.proofs.RefusedAnswerLemmas.{is_refused}
@@ -317,6 +317,15 @@ pub mapped_as_told : (h later : Machine) (inputs : List Input) (said : Transcrip
     → but_for_copies later.mappings ≡ but_for_copies (mappings_after h.mappings (exchanges inputs said.answers))
 mapped_as_told h later inputs said run = mappings-run h later h.mappings inputs said refl run
 
+-- copies have no bytes then
+pub once : (mappings : List Mapping) → AreAlike mappings (but_for_copies mappings)
+once [] = refl
+once (m ∷ mappings) = ap (λ ms. record m { copy = [] } ∷ ms) (once mappings)
+
+-- the commands of a script that were begun, with mappings that have copies too
+abbrev pub begun_on : List Mapping → List Input → List Answer → List Begun
+begun_on mappings inputs answers = all_begun mappings (exchanges inputs answers)
+
 -- what none of the commands that were begun does the first one does not, and none of the rest
 first-begun : (does : Begun → Bool) (begun : Bool) (one : Begun) (rest : List Begun) → NoneBegun does ((if begun then one ∷ [] else []) ++ rest)
     → (begun ≡ true → does one ≡ false) × NoneBegun does rest
@@ -324,8 +333,8 @@ first-begun does true one rest none = let parts = or_parts (does one) (list_any 
 first-begun does false one rest none = (λ is. cc is, none)
 
 pub none-asked : (does : Begun → Bool) (mappings : List Mapping) (action : Action) (inputs : List Input) (first : Transcript) (answer : Answer) (answers : List Answer)
-    → first.answers ≡ answer ∷ [] → NoneBegun does (commands_begun mappings (Asked action ∷ inputs) (first.answers ++ answers))
-    → (is_begun answer ≡ true → does (record { action = action; mappings = mappings }) ≡ false) × NoneBegun does (commands_begun (mappings_then mappings action answer) inputs answers)
+    → first.answers ≡ answer ∷ [] → NoneBegun does (begun_on mappings (Asked action ∷ inputs) (first.answers ++ answers))
+    → (is_begun answer ≡ true → does (record { action = action; mappings = mappings }) ≡ false) × NoneBegun does (begun_on (mappings_then mappings action answer) inputs answers)
 none-asked does mappings action inputs first answer answers is none =
-    first-begun does (is_begun answer) (record { action = action; mappings = mappings }) (commands_begun (mappings_then mappings action answer) inputs answers)
-    (subst (λ s. NoneBegun does (commands_begun mappings (Asked action ∷ inputs) (s ++ answers))) is none)
+    first-begun does (is_begun answer) (record { action = action; mappings = mappings }) (begun_on (mappings_then mappings action answer) inputs answers)
+    (subst (λ s. NoneBegun does (begun_on mappings (Asked action ∷ inputs) (s ++ answers))) is none)

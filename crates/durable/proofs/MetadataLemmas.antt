@@ -39,8 +39,8 @@ use Rattle.durable.specs.Place.{Place}
 use Rattle.durable.specs.Place.Place.{of_volume, of_blocks, of_file}
 use Rattle.durable.specs.Touching.{is_begun, unmounts}
 use Rattle.durable.specs.Durable.{HasNothing, IsDone, Spares}
-use Rattle.durable.specs.Mapped.{Begun, commands_begun, mappings_then}
-use Rattle.durable.proofs.MappedLemmas.{none-asked}
+use Rattle.durable.specs.Mapped.{Begun, but_for_copies, commands_begun, mappings_then}
+use Rattle.durable.proofs.MappedLemmas.{begun_on, none-asked}
 use Rattle.durable.proofs.HandleLemmas.{flush_done, of_flush, of_load, of_map, of_store}
 use Rattle.durable.proofs.RefusalLemmas.{refused_told}
 use Rattle.durable.proofs.RefusedAnswerLemmas.{is_refused}
@@ -156,14 +156,14 @@ poisoned_all line (of_blocks i) = refl
 poisoned_all line (of_file name i) = refl
 
 same_heard : (h next : Machine) (input : Input) (inputs : List Input) (mappings : List Mapping) (said : Transcript) (answers : List Answer) (x : Place) → Hears h input said next
-    → Spares (λ ms. unmounts) x (commands_begun mappings (input ∷ inputs) (said.answers ++ answers))
-    → (next.bad_meta ≡ h.bad_meta) × ((told : List Mapping) × Spares (λ ms. unmounts) x (commands_begun told inputs answers))
+    → Spares (λ ms. unmounts) x (begun_on mappings (input ∷ inputs) (said.answers ++ answers))
+    → (next.bad_meta ≡ h.bad_meta) × ((told : List Mapping) × Spares (λ ms. unmounts) x (begun_on told inputs answers))
 same_heard h next Skipped inputs mappings said answers x heard spares =
-    (ap (λ m. m.bad_meta) heard.1, (mappings, subst (λ (s : Transcript). Spares (λ ms. unmounts) x (commands_begun mappings inputs (s.answers ++ answers))) heard.0 spares))
+    (ap (λ m. m.bad_meta) heard.1, (mappings, subst (λ (s : Transcript). Spares (λ ms. unmounts) x (begun_on mappings inputs (s.answers ++ answers))) heard.0 spares))
 same_heard h next Malformed inputs mappings said answers x heard spares =
-    (ap (λ m. m.bad_meta) heard.1, (mappings, subst (λ (s : Transcript). Spares (λ ms. unmounts) x (commands_begun mappings (Malformed ∷ inputs) (s.answers ++ answers))) heard.0 spares))
+    (ap (λ m. m.bad_meta) heard.1, (mappings, subst (λ (s : Transcript). Spares (λ ms. unmounts) x (begun_on mappings (Malformed ∷ inputs) (s.answers ++ answers))) heard.0 spares))
 same_heard h next Overlong inputs mappings said answers x heard spares =
-    (ap (λ m. m.bad_meta) heard.1, (mappings, subst (λ (s : Transcript). Spares (λ ms. unmounts) x (commands_begun mappings (Overlong ∷ inputs) (s.answers ++ answers))) heard.0 spares))
+    (ap (λ m. m.bad_meta) heard.1, (mappings, subst (λ (s : Transcript). Spares (λ ms. unmounts) x (begun_on mappings (Overlong ∷ inputs) (s.answers ++ answers))) heard.0 spares))
 same_heard h next (Asked action) inputs mappings said answers x heard spares =
     let mark = marked h action said next heard in
     let each = none-asked (λ (c : Begun). unmounts c.action x) mappings action inputs said mark.answer answers mark.answers spares in (
@@ -175,15 +175,15 @@ same_heard h next (Asked action) inputs mappings said answers x heard spares =
     )
 
 same_run : (h later : Machine) (x : Place) (inputs : List Input) (mappings : List Mapping) (said : Transcript) → Run h inputs said later
-    → Spares (λ ms. unmounts) x (commands_begun mappings inputs said.answers) → later.bad_meta ≡ h.bad_meta
+    → Spares (λ ms. unmounts) x (begun_on mappings inputs said.answers) → later.bad_meta ≡ h.bad_meta
 same_run h later x [] mappings said run spares = ap (λ m. m.bad_meta) run.1
 same_run h later x (input ∷ inputs) mappings said run spares =
-    let split = subst (λ (s : Transcript). Spares (λ ms. unmounts) x (commands_begun mappings (input ∷ inputs) s.answers)) run.3 spares in
+    let split = subst (λ (s : Transcript). Spares (λ ms. unmounts) x (begun_on mappings (input ∷ inputs) s.answers)) run.3 spares in
     let first = same_heard h run.2 input inputs mappings run.0 run.1.answers x run.4 split in same_run run.2 later x inputs first.1.0 run.1 run.5 first.1.1 ∙ first.0
 
 pub same_metadata : (h later : Machine) (x : Place) (inputs : List Input) (said : Transcript) → Run h inputs said later
     → Spares (λ ms. unmounts) x (commands_begun h.mappings inputs said.answers) → later.bad_meta ≡ h.bad_meta
-same_metadata h later x inputs said run spares = same_run h later x inputs h.mappings said run spares
+same_metadata h later x inputs said run spares = same_run h later x inputs (but_for_copies h.mappings) said run spares
 
 -- those that are bad stay so
 contains-first : (x : ℕ) (xs : List ℕ) → Contains (x ∷ xs) x

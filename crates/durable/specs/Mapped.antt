@@ -168,12 +168,13 @@ pub record Begun : Type 0 where
   pub action : Action
   pub mappings : List Mapping
 
--- the commands of a script that were begun, by what they were answered, where the mappings were these at first
+-- those of a script that were begun, by what they were answered, where the mappings were these at first
 abbrev pub all_begun : List Mapping → List Exchange → List Begun
 all_begun mappings [] = []
 all_begun mappings (one ∷ rest) =
     (if is_begun one.answer then record { action = one.action; mappings = mappings } ∷ [] else [])
     ++ all_begun (mappings_then mappings one.action one.answer) rest
 
+-- the same of mappings but for the bytes of copies
 abbrev pub commands_begun : List Mapping → List Input → List Answer → List Begun
-commands_begun mappings inputs answers = all_begun mappings (exchanges inputs answers)
+commands_begun mappings inputs answers = all_begun (but_for_copies mappings) (exchanges inputs answers)

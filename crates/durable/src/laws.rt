@@ -2,7 +2,7 @@
 ghost use Rattle.std.specs.Prelude.{◌≡◌, ◌≢◌, ◌⊎◌, ◌+◌, ◌-◌, ◌*◌, ◌/◌, ℕ, true, false, List, [], ◌∷◌, ◌++◌, length, slice_index, Some, None};
 ghost use Rattle.word_tables.specs.declared.geometry.Geometry.{Geometry};
 ghost use Rattle.std.specs.List.{Contains};
-ghost use Rattle.durable.specs.Touching.{is_made_durable, unmounts, wears};
+ghost use Rattle.durable.specs.Touching.{is_made_durable, made_durable, unmounts, wears};
 ghost use Rattle.nvm_base.specs.declared.files.FileEntry.{FileEntry};
 ghost use Rattle.nvm_base.specs.declared.units.Span.{Span};
 ghost use Rattle.reply_text.specs.Answer.Answer.{Files, RefusedMeta, Stopped as StoppedMeta, VerifyFile};
@@ -234,12 +234,14 @@ pub fn media_errors_are_told_once()
 {}
 
 /// Which handle is of which file is told by the commands and their answers: the mappings of each later state are those, but for the
-/// bytes of copies. Each lies within its file.
+/// bytes of copies. What a command makes durable is the same whatever copies have. Each mapping lies within its file.
 pub fn what_is_mapped_is_told()
     ensures within { (h later : Machine) (inputs : List Input) (said : Transcript) → AreWithin h.mappings h.files → Run h inputs said later
         → AreWithin later.mappings later.files }
     ensures told { (h later : Machine) (inputs : List Input) (said : Transcript) → Run h inputs said later
         → but_for_copies later.mappings ≡ but_for_copies (mappings_after h.mappings (exchanges inputs said.answers)) }
+    ensures blind { (geo : Geometry) (one other : List Mapping) (action : Action) → but_for_copies one ≡ but_for_copies other
+        → made_durable geo one action ≡ made_durable geo other action }
 {}
 
 /// A machine that is read from an image is in such a state, whatever is armed, and no run leaves them.
