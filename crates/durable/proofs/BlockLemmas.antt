@@ -11,7 +11,7 @@ use Rattle.std.proofs.lemmas.List.{length-take}
 use Rattle.nvm_base.specs.declared.units.Span.{Span}
 use Rattle.nvm_model.specs.Blocks.{change, change_block, data_from, lose, lose_at, lose_line, nth, write, write_block, write_ranges}
 use Rattle.nvm_model.specs.Numbered.{is_among, map_from}
-use Rattle.nvm_model.specs.Storage.{Block}
+use Rattle.nvm_model.specs.Storage.{Block, Mapping}
 use Rattle.nvm_model.specs.Storage.Block.{Absent, Scarred, Data}
 use Rattle.block_device.specs.Refusals.{block_spans}
 use Rattle.script_text.specs.Action.{Action}
@@ -60,14 +60,14 @@ nth-change spans to n blocks out = nth-map (change_block spans to) 0 n blocks (�
     by_number m old is = ap (λ b. cond b to old) (ap (λ j. list_any (λ (span : Span). is_among span.start span.len j) spans) is ∙ out)
 
 -- a block that an action does not change
-pub nth-spared : (action : Action) (i : ℕ) (blocks : List Block) → changes action (of_blocks i) ≡ false → nth ((meaning action).blocks blocks) (i / 512) ≡ nth blocks (i / 512)
-nth-spared (BWrite block bytes) i blocks out = nth-write block (i / 512) bytes blocks (or_parts _ false out).0
-nth-spared (BAtomic block bytes) i blocks out = nth-write block (i / 512) bytes blocks (or_parts _ false out).0
-nth-spared (BMulti ranges bytes) i blocks out = nth-write_ranges ranges bytes (i / 512) blocks out
-nth-spared (BDiscard block count) i blocks out = nth-change (blocks_from block count) Absent (i / 512) blocks out
-nth-spared (BDiscardIf block count) i blocks out = nth-change (blocks_from block count) Absent (i / 512) blocks out
-nth-spared (BScar ranges) i blocks out = nth-change ranges Scarred (i / 512) blocks out
-nth-spared action i blocks out = refl
+pub nth-spared : (mappings : List Mapping) (action : Action) (i : ℕ) (blocks : List Block) → changes mappings action (of_blocks i) ≡ false → nth ((meaning action).blocks blocks) (i / 512) ≡ nth blocks (i / 512)
+nth-spared mappings (BWrite block bytes) i blocks out = nth-write block (i / 512) bytes blocks (or_parts _ false out).0
+nth-spared mappings (BAtomic block bytes) i blocks out = nth-write block (i / 512) bytes blocks (or_parts _ false out).0
+nth-spared mappings (BMulti ranges bytes) i blocks out = nth-write_ranges ranges bytes (i / 512) blocks out
+nth-spared mappings (BDiscard block count) i blocks out = nth-change (blocks_from block count) Absent (i / 512) blocks out
+nth-spared mappings (BDiscardIf block count) i blocks out = nth-change (blocks_from block count) Absent (i / 512) blocks out
+nth-spared mappings (BScar ranges) i blocks out = nth-change ranges Scarred (i / 512) blocks out
+nth-spared mappings action i blocks out = refl
 
 -- what an interruption leaves of one that is the same either way
 pub nth-left : (left : BlocksLeft) (n : ℕ) (old to new : List Block) → nth to n ≡ nth old n → LeavesBlocks left old to new → nth new n ≡ nth old n

@@ -1,6 +1,6 @@
 -- What a command that made a place durable left of it.
 use Rattle.std.proofs.Common.{◌≡◌, ◌⊎◌, inl, inr, ℕ, ◌+◌, ◌/◌, ◌%◌, Bool, true, false, Option, Some, None, option_map, List, [], ◌∷◌, length, slice_get, slice_index_or, refl, sym, ap, subst, ◌∙◌, arith, if◌then◌else◌}
-use Rattle.std.proofs.lemmas.Bool.{and_from, and_parts, eqb-true}
+use Rattle.std.proofs.lemmas.Bool.{and_parts, eqb-true}
 use Rattle.std.specs.Str.{bytes_eq}
 use Rattle.std.proofs.lemmas.Slice.Eq.{bytes_eq-Decides}
 use Rattle.nvm_base.specs.declared.units.Span.{Span}
@@ -26,8 +26,8 @@ use Rattle.machine_model.specs.OnPages.{pages_named}
 use Rattle.machine_model.specs.OnVolume.{persist_at}
 use Rattle.durable.specs.Place.{Place, byte_at_place, is_line_present, line_has}
 use Rattle.durable.specs.Place.Place.{of_volume, of_blocks, of_file}
-use Rattle.durable.specs.Region.{all_files, flushed_by, flushed_lines, flushed_through, holds, nothing, touched_lines_at}
-use Rattle.durable.specs.Touching.{is_made_durable, made_durable, may_be_made_durable, may_make_durable, may_wear, wears}
+use Rattle.durable.specs.Region.{flushed_by, flushed_lines, flushed_through, nothing, touched_lines_at}
+use Rattle.durable.specs.Touching.{is_made_durable, made_durable}
 use Rattle.durable.specs.Durable.{HaveLines, IsComplete, IsLineThere}
 use Rattle.durable.proofs.StepKinds.{Alters, files_made}
 use Rattle.durable.proofs.LineLemmas.{LineKeeps, MayBe, line_keeps-flushed}
@@ -58,42 +58,16 @@ no_file None len name i covered = cc covered
 no_file (Some start) len name i covered = cc covered
 
 -- a flush covers bytes of files alone
-flush_files : (mappings : List Mapping) (handle : ℕ) (spans : List Span) (x : Place) → holds (flushed_through mappings handle spans) x ≡ true → holds all_files x ≡ true
-flush_files mappings handle spans x = by_mapping (mapping_of handle mappings) x
+pub no_volume : (mappings : List Mapping) (handle : ℕ) (spans : List Span) (i : ℕ) → (flushed_through mappings handle spans).volume i ≡ true → ⊥
+no_volume mappings handle spans i = by_mapping (mapping_of handle mappings)
   where
-    of_none : (x : Place) → holds nothing x ≡ true → holds all_files x ≡ true
-    of_none (of_volume i) is = is
-    of_none (of_blocks i) is = is
-    of_none (of_file name i) is = refl
+    by_kind : (m : Mapping) (shared : Bool) → (if shared then flushed_lines m.name (all_moved m.start spans) else nothing).volume i ≡ true → ⊥
+    by_kind m true is = cc is
+    by_kind m false is = cc is
 
-    of_lines : (text : List ℕ) (moved : List Span) (x : Place) → holds (flushed_lines text moved) x ≡ true → holds all_files x ≡ true
-    of_lines text moved (of_volume i) is = is
-    of_lines text moved (of_blocks i) is = is
-    of_lines text moved (of_file name i) is = refl
-
-    by_kind : (m : Mapping) (shared : Bool) (x : Place) → holds (if shared then flushed_lines m.name (all_moved m.start spans) else nothing) x ≡ true → holds all_files x ≡ true
-    by_kind m true x is = of_lines m.name (all_moved m.start spans) x is
-    by_kind m false x is = of_none x is
-
-    by_mapping : (o : Option Mapping) (x : Place) → holds (flushed_by spans o) x ≡ true → holds all_files x ≡ true
-    by_mapping None x is = of_none x is
-    by_mapping (Some m) x is = by_kind m (is_shared m.kind) x is
-
--- so what a command makes durable is of what it may make durable
-pub may_cover : (h : Machine) (action : Action) (x : Place) → is_made_durable h action x ≡ true → may_be_made_durable h action x ≡ true
-may_cover h (Sync handle offset len) x covered = flush_files h.mappings handle (record { start = offset; len = len } ∷ []) x covered
-may_cover h (Flush handle spans) x covered = flush_files h.mappings handle spans x covered
-may_cover h (FlushVerify handle spans) x covered = flush_files h.mappings handle spans x covered
-may_cover h (DeepFlush handle spans) x covered = flush_files h.mappings handle spans x covered
-may_cover h action x covered = covered
-
--- and a weak line that it may lose by that is one that it may lose
-pub same_worn : (h : Machine) (action : Action) → (may_make_durable h.geometry action).worn ≡ (made_durable h.geometry h.mappings action).worn
-same_worn h (Sync handle offset len) = refl
-same_worn h action = refl
-
-pub may_wear_out : (h : Machine) (action : Action) (x : Place) → wears h action x ≡ true → may_wear h action x ≡ true
-may_wear_out h action x worn = let both = and_parts _ _ worn in and_from _ _ (same_worn h action ∙ both.0) (may_cover h action x both.1)
+    by_mapping : (o : Option Mapping) → (flushed_by spans o).volume i ≡ true → ⊥
+    by_mapping None is = cc is
+    by_mapping (Some m) is = by_kind m (is_shared m.kind) is
 
 -- a bad line that is zeros now
 pub record LineCleared (i : ℕ) (old new : List Page) : Type 0 where
@@ -213,11 +187,10 @@ module _ (since : MayBe) where
       subst (λ p. ShownKept p i) (sym to.volume) (synced_at (physical_offset h.geometry address len) len i h.volume whole.lines covered)
   covered_place h (ClearVolume offset) next (of_volume i) whole covered none to =
       subst (λ p. ShownKept p i) (sym to.volume) (cleared_line (offset / 64) i h.volume (eqb-true (i / 64) (offset / 64) covered) (was_bad h offset none))
-  covered_place h (Sync handle offset len) next (of_volume i) whole covered none to =
-      let no = flush_files h.mappings handle (record { start = offset; len = len } ∷ []) (of_volume i) covered in cc no
-  covered_place h (Flush handle spans) next (of_volume i) whole covered none to = let no = flush_files h.mappings handle spans (of_volume i) covered in cc no
-  covered_place h (FlushVerify handle spans) next (of_volume i) whole covered none to = let no = flush_files h.mappings handle spans (of_volume i) covered in cc no
-  covered_place h (DeepFlush handle spans) next (of_volume i) whole covered none to = let no = flush_files h.mappings handle spans (of_volume i) covered in cc no
+  covered_place h (Sync handle offset len) next (of_volume i) whole covered none to = absurd (no_volume h.mappings handle (record { start = offset; len = len } ∷ []) i covered)
+  covered_place h (Flush handle spans) next (of_volume i) whole covered none to = absurd (no_volume h.mappings handle spans i covered)
+  covered_place h (FlushVerify handle spans) next (of_volume i) whole covered none to = absurd (no_volume h.mappings handle spans i covered)
+  covered_place h (DeepFlush handle spans) next (of_volume i) whole covered none to = absurd (no_volume h.mappings handle spans i covered)
   covered_place h action next (of_volume i) whole covered none to = cc covered
   covered_place h action next (of_file name i) whole covered none to =
       elim (file_renewed h action next name i covered none to) as (λ _. ShownKept (pages_named name next.files) i) [

@@ -64,7 +64,7 @@ stored_entries name offset bytes files =
     (λ pages. length-put_fill offset (length bytes) bytes pages) files)
 
 -- lines of one flushed or marked
-synced_entries : (name : List ℕ) (spans : List Span) (files : List File) → map entry_of_file (synced_in name spans files) ≡ map entry_of_file files
+pub synced_entries : (name : List ℕ) (spans : List Span) (files : List File) → map entry_of_file (synced_in name spans files) ≡ map entry_of_file files
 synced_entries name spans files =
     one_left-entries name (λ old new. length new ≡ length old) (λ old new same. same) files (synced_in name spans files)
     (left-change name (persist_spans spans) (λ old new. length new ≡ length old) (length-spans spans) files)

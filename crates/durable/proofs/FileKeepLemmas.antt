@@ -25,12 +25,13 @@ use Rattle.machine_model.specs.Commands.{LeavesFiles, MayLeaveFiles, meaning}
 use Rattle.machine_model.specs.Meaning.FilesLeft.{Unchanged}
 use Rattle.machine_model.specs.declared.look.Look.TheVariants.{Once, Again}
 use Rattle.machine_model.specs.OnFileActions.{written_together}
-use Rattle.machine_model.specs.OnMappings.{load_through, read_copy}
-use Rattle.machine_model.specs.OnPages.{fread, pages_named, stored_in}
+use Rattle.machine_model.specs.OnMappings.{load_through, read_copy, store_through, write_copy}
+use Rattle.machine_model.specs.OnPages.{fread, fwrite, pages_named, stored_in}
 use Rattle.durable.specs.Place.Place.{of_file}
+use Rattle.durable.specs.Region.{file_bytes, nothing, stored_by, stored_through}
 use Rattle.durable.proofs.LineLemmas.{MayBe}
 use Rattle.durable.proofs.NamedPageLemmas.{named-change, named-left, named-own, named-put, named-read, named-rename, named-without}
-use Rattle.durable.proofs.FlushedFileLemmas.{FileKeeps, keeps-changed_in, keeps-flushed_in, keeps-part_flushed, same_pages}
+use Rattle.durable.proofs.FlushedFileLemmas.{FileKeeps, here_and, keeps-changed_in, keeps-flushed_in, keeps-part_flushed, same_pages}
 use Rattle.durable.proofs.RewrittenKeepLemmas.{has_byte, keeps-rewritten}
 use Rattle.durable.proofs.SparedLemmas.{KeepsBytes, KeptBy, SparedBy, SparesPlace}
 use Rattle.durable.proofs.StepKinds.{files_made}
@@ -47,9 +48,6 @@ spared_store text name offset len i spared = by_name (bytes_eq text name) (bytes
 -- a place of the file that an action names
 pub spared_here : (text name : List ℕ) (b : Bool) → text ≡ name → (bytes_eq text name && b) ≡ false → b ≡ false
 spared_here text name b same spared = sym (ap (λ t. t && b) ((bytes_eq-Decides text name).1 same)) ∙ spared
-
-pub here_and : (text name : List ℕ) (b : Bool) → text ≡ name → b ≡ true → (bytes_eq text name && b) ≡ true
-here_and text name b same is = and_from (bytes_eq text name) b ((bytes_eq-Decides text name).1 same) is
 
 -- one range, as one of several
 one_of : (b : Bool) → b ≡ (b || false)
@@ -104,6 +102,22 @@ module _ (since : MayBe) where
         | inr none ↦ same_pages since name i v files (stored_in name offset bytes files) none.0 keeps
       ])
 
+  -- bytes that are stored through a handle, beside it
+  keeps-stored_through : (handle offset : ℕ) (bytes : List ℕ) (name : List ℕ) (i : ℕ) (v : Option ℕ) (mappings : List Mapping) (files : List File) → ((k : ℕ) → get_or bytes k 0 < 256)
+      → (stored_through mappings handle offset (length bytes)).files name i ≡ false → FileKeeps since files name i v
+      → FileKeeps since ((meaning (Store handle offset bytes)).files mappings files) name i v
+  keeps-stored_through handle offset bytes name i v mappings files small spared keeps = by_mapping (mapping_of handle mappings) spared
+    where
+      by_kind : (m : Mapping) (shared : Bool) → (if shared then file_bytes m.name (m.start + offset) (length bytes) else nothing).files name i ≡ false
+          → FileKeeps since ((if shared then fwrite m.name (m.start + offset) bytes else write_copy handle offset bytes).files mappings files) name i v
+      by_kind m true out = keeps-stored_in m.name name (m.start + offset) i v bytes files small (spared_store m.name name (m.start + offset) (length bytes) i out) keeps
+      by_kind m false out = keeps
+
+      by_mapping : (o : Option Mapping) → (stored_by offset (length bytes) o).files name i ≡ false
+          → FileKeeps since (elim o [ None ↦ files | Some m ↦ (store_through handle offset bytes m).files mappings files ]) name i v
+      by_mapping None out = keeps
+      by_mapping (Some m) out = by_kind m (is_shared m.kind) out
+
   -- pages that are written as a whole, beside it
   keeps-together : (text name : List ℕ) (ranges : List Span) (i : ℕ) (v : Option ℕ) (bytes : List ℕ) (files : List File) → ((k : ℕ) → get_or bytes k 0 < 256)
       → (bytes_eq text name && has_byte ranges i) ≡ false → first_lost ranges (pages_named text files) ≡ None → FileKeeps since files name i v
@@ -116,7 +130,7 @@ module _ (since : MayBe) where
 
   -- what an action makes of files, where it marks none of their lines
   file_meant : (geo : Geometry) (action : Action) (name : List ℕ) (i : ℕ) (v : Option ℕ) (mappings : List Mapping) (files : List File)
-      → SparesPlace since geo action (of_file name i) → KeepsBytes action files → FileKeeps since files name i v → FileKeeps since ((meaning action).files mappings files) name i v
+      → SparesPlace since geo mappings action (of_file name i) → KeepsBytes action files → FileKeeps since files name i v → FileKeeps since ((meaning action).files mappings files) name i v
   file_meant geo (Create text pages) name i v mappings files spared fine keeps = same_pages since name i v files _ (named-put name (new_file text pages) files spared.change) keeps
   file_meant geo (Delete text) name i v mappings files spared fine keeps = same_pages since name i v files _ (named-without name text spared.change files) keeps
   file_meant geo (Rename text to) name i v mappings files spared fine keeps =
@@ -138,19 +152,19 @@ module _ (since : MayBe) where
       (λ same kept. keeps-spans since all_bytes i v (pages_named name files) (λ touched. spared.cover (here_and text name (touches_any all_bytes (i / 64)) same touched)) kept) keeps
   file_meant geo (Load handle offset len) name i v mappings files spared fine keeps =
       subst (λ fs. FileKeeps since fs name i v) {x = files} (sym (load-leaves handle offset len mappings files)) keeps
-  file_meant geo (Store handle offset bytes) name i v mappings files spared fine keeps = let no = spared.change in cc no
+  file_meant geo (Store handle offset bytes) name i v mappings files spared fine keeps = keeps-stored_through handle offset bytes name i v mappings files spared.brings spared.change keeps
   file_meant geo (Sync handle offset len) name i v mappings files spared fine keeps =
-      keeps-flushed_in since Once handle (record { start = offset; len = len } ∷ []) name i v mappings files (spared.cover refl) keeps
-  file_meant geo (Flush handle spans) name i v mappings files spared fine keeps = keeps-flushed_in since Once handle spans name i v mappings files (spared.cover refl) keeps
-  file_meant geo (FlushVerify handle spans) name i v mappings files spared fine keeps = keeps-flushed_in since Again handle spans name i v mappings files (spared.cover refl) keeps
-  file_meant geo (DeepFlush handle spans) name i v mappings files spared fine keeps = keeps-flushed_in since Once handle spans name i v mappings files (spared.cover refl) keeps
+      keeps-flushed_in since Once handle (record { start = offset; len = len } ∷ []) name i v mappings files spared.cover keeps
+  file_meant geo (Flush handle spans) name i v mappings files spared fine keeps = keeps-flushed_in since Once handle spans name i v mappings files spared.cover keeps
+  file_meant geo (FlushVerify handle spans) name i v mappings files spared fine keeps = keeps-flushed_in since Again handle spans name i v mappings files spared.cover keeps
+  file_meant geo (DeepFlush handle spans) name i v mappings files spared fine keeps = keeps-flushed_in since Once handle spans name i v mappings files spared.cover keeps
   file_meant geo (ClearFile text offset) name i v mappings files spared fine keeps =
       keeps-changed_in since text name i v (change_line clear_cell (offset / 64)) files
       (λ same kept. keeps-clear since (offset / 64) i v (pages_named name files) (λ at. both_ways _ spared.change (in_line text name i (offset / 64) same at)) kept) keeps
   file_meant geo action name i v mappings files spared fine keeps = keeps
 
   pub file_altered : (geo : Geometry) (action : Action) (name : List ℕ) (i : ℕ) (v : Option ℕ) (mappings : List Mapping) (files : List File)
-      → SparesPlace since geo action (of_file name i) → KeepsBytes action files → FileKeeps since files name i v → FileKeeps since (files_made mappings action files) name i v
+      → SparesPlace since geo mappings action (of_file name i) → KeepsBytes action files → FileKeeps since files name i v → FileKeeps since (files_made mappings action files) name i v
   file_altered geo (PoisonFile text offset) name i v mappings files spared fine keeps =
       keeps-changed_in since text name i v (change_line lose_cell (offset / 64)) files
       (λ same kept. keeps-lose since (offset / 64) i v (pages_named name files) (λ at. spared.poison (in_line text name i (offset / 64) same at)) kept) keeps
@@ -172,15 +186,36 @@ module _ (since : MayBe) where
             ]
       ]
 
-  left_by : (geo : Geometry) (mappings : List Mapping) (a : Action) (name : List ℕ) (i : ℕ) (v : Option ℕ) (files left : List File) → SparesPlace since geo a (of_file name i) → KeepsBytes a files
+  keeps-part_stored : (handle offset : ℕ) (bytes : List ℕ) (name : List ℕ) (i : ℕ) (v : Option ℕ) (mappings : List Mapping) (files left : List File) → ((k : ℕ) → get_or bytes k 0 < 256)
+      → (stored_through mappings handle offset (length bytes)).files name i ≡ false → MayLeaveFiles mappings (Some (Store handle offset bytes)) files left → FileKeeps since files name i v
+      → FileKeeps since left name i v
+  keeps-part_stored handle offset bytes name i v mappings files left small spared may keeps = by_mapping (mapping_of handle mappings) spared may
+    where
+      to : List File
+      to = (meaning (Store handle offset bytes)).files mappings files
+
+      same : left ≡ files → FileKeeps since left name i v
+      same is = subst (λ fs. FileKeeps since fs name i v) {x = files} (sym is) keeps
+
+      by_kind : (m : Mapping) (shared : Bool) → (if shared then file_bytes m.name (m.start + offset) (length bytes) else nothing).files name i ≡ false
+          → LeavesFiles ((if shared then fwrite m.name (m.start + offset) bytes else write_copy handle offset bytes).files_left mappings) files to left → FileKeeps since left name i v
+      by_kind m true out part = keeps-left_in m.name name (m.start + offset) i v bytes files left small out part keeps
+      by_kind m false out is = same is
+
+      by_mapping : (o : Option Mapping) → (stored_by offset (length bytes) o).files name i ≡ false
+          → LeavesFiles (elim o [ None ↦ Unchanged | Some m ↦ (store_through handle offset bytes m).files_left mappings ]) files to left → FileKeeps since left name i v
+      by_mapping None out is = same is
+      by_mapping (Some m) out part = by_kind m (is_shared m.kind) out part
+
+  left_by : (geo : Geometry) (mappings : List Mapping) (a : Action) (name : List ℕ) (i : ℕ) (v : Option ℕ) (files left : List File) → SparesPlace since geo mappings a (of_file name i) → KeepsBytes a files
       → MayLeaveFiles mappings (Some a) files left → FileKeeps since files name i v → FileKeeps since left name i v
   left_by geo mappings a name i v files left spared fine may keeps = by_action a spared fine may
     where
-      whole : (a : Action) → SparesPlace since geo a (of_file name i) → KeepsBytes a files → (left ≡ files) ⊎ (left ≡ (meaning a).files mappings files) → FileKeeps since left name i v
+      whole : (a : Action) → SparesPlace since geo mappings a (of_file name i) → KeepsBytes a files → (left ≡ files) ⊎ (left ≡ (meaning a).files mappings files) → FileKeeps since left name i v
       whole a spares fine (inl is) = subst (λ fs. FileKeeps since fs name i v) {x = files} (sym is) keeps
       whole a spares fine (inr is) = subst (λ fs. FileKeeps since fs name i v) {x = (meaning a).files mappings files} (sym is) (file_meant geo a name i v mappings files spares fine keeps)
 
-      by_action : (a : Action) → SparesPlace since geo a (of_file name i) → KeepsBytes a files → MayLeaveFiles mappings (Some a) files left → FileKeeps since left name i v
+      by_action : (a : Action) → SparesPlace since geo mappings a (of_file name i) → KeepsBytes a files → MayLeaveFiles mappings (Some a) files left → FileKeeps since left name i v
       by_action (Create text pages) spares fine may = whole (Create text pages) spares fine may
       by_action (Delete text) spares fine may = whole (Delete text) spares fine may
       by_action (Rename text to) spares fine may = whole (Rename text to) spares fine may
@@ -197,17 +232,17 @@ module _ (since : MayBe) where
                 (λ touched. spares.cover (here_and text name (touches_any all_bytes (i / 64)) (sym here.0) touched)) keeps here.1
           ]
       by_action (Load handle offset len) spares fine may = subst (λ fs. FileKeeps since fs name i v) {x = files} (sym (load-left handle offset len mappings files left may)) keeps
-      by_action (Store handle offset bytes) spares fine may = let no = spares.change in cc no
+      by_action (Store handle offset bytes) spares fine may = keeps-part_stored handle offset bytes name i v mappings files left spares.brings spares.change may keeps
       by_action (Sync handle offset len) spares fine may =
-          keeps-part_flushed since Once handle (record { start = offset; len = len } ∷ []) name i v mappings files left (spares.cover refl) may keeps
-      by_action (Flush handle spans) spares fine may = keeps-part_flushed since Once handle spans name i v mappings files left (spares.cover refl) may keeps
-      by_action (FlushVerify handle spans) spares fine may = keeps-part_flushed since Again handle spans name i v mappings files left (spares.cover refl) may keeps
-      by_action (DeepFlush handle spans) spares fine may = keeps-part_flushed since Once handle spans name i v mappings files left (spares.cover refl) may keeps
+          keeps-part_flushed since Once handle (record { start = offset; len = len } ∷ []) name i v mappings files left spares.cover may keeps
+      by_action (Flush handle spans) spares fine may = keeps-part_flushed since Once handle spans name i v mappings files left spares.cover may keeps
+      by_action (FlushVerify handle spans) spares fine may = keeps-part_flushed since Again handle spans name i v mappings files left spares.cover may keeps
+      by_action (DeepFlush handle spans) spares fine may = keeps-part_flushed since Once handle spans name i v mappings files left spares.cover may keeps
       by_action (ClearFile text offset) spares fine may = whole (ClearFile text offset) spares fine may
       by_action a spares fine is = subst (λ fs. FileKeeps since fs name i v) {x = files} (sym is) keeps
 
   pub file_left : (geo : Geometry) (mappings : List Mapping) (o : Option Action) (name : List ℕ) (i : ℕ) (v : Option ℕ) (files left : List File)
-      → SparedBy since geo o (of_file name i) → KeptBy o files → MayLeaveFiles mappings o files left → FileKeeps since files name i v → FileKeeps since left name i v
+      → SparedBy since geo mappings o (of_file name i) → KeptBy o files → MayLeaveFiles mappings o files left → FileKeeps since files name i v → FileKeeps since left name i v
   file_left geo mappings None name i v files left spared fine is keeps = subst (λ fs. FileKeeps since fs name i v) {x = files} (sym is) keeps
   file_left geo mappings (Some action) name i v files left spared fine may keeps = left_by geo mappings action name i v files left spared fine may keeps
 

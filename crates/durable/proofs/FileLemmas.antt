@@ -19,6 +19,7 @@ use Rattle.machine_model.specs.Meaning.{FilesLeft}
 use Rattle.machine_model.specs.Meaning.FilesLeft.{Unchanged, OldOrNew, StoredInPart, SyncedInPart}
 use Rattle.machine_model.specs.Run.{Hears, Run, Takes, Transcript}
 use Rattle.durable.specs.Touching.{is_begun}
+use Rattle.durable.specs.Mapped.{Begun, but_for_copies, commands_begun, mappings_then}
 use Rattle.durable.specs.Durable.{Does, HasNothing, IsComplete, IsDone, NoneBegun}
 use Rattle.durable.specs.Files.{BreaksOff, FilesLast, FilesSettle, FilesThrough, IsStopped, LeavesFiles, changes_files, files_after, files_listed}
 use Rattle.durable.proofs.StepKinds.{Step, Stops}
@@ -26,7 +27,8 @@ use Rattle.durable.proofs.StepKinds.Step.{idles, alters, stops, returns, remount
 use Rattle.durable.proofs.StepLemmas.{nothing_run, step_of}
 use Rattle.durable.proofs.EntryLemmas.{entries_made, entries_read, entries_same, files_meant, may_spans-length}
 use Rattle.durable.proofs.KeepLemmas.{done_begun, stop_begun}
-use Rattle.durable.proofs.LawLemmas.{came_of, finishes, none-asked, not_done}
+use Rattle.durable.proofs.LawLemmas.{came_of, finishes}
+use Rattle.durable.proofs.MappedLemmas.{begun_on, none-asked}
 use Rattle.durable.proofs.PassLemmas.{pass}
 use Rattle.durable.proofs.RefusalLemmas.{is_on, refused_told}
 use Rattle.durable.proofs.RefusedAnswerLemmas.{is_refused}
@@ -83,34 +85,36 @@ module _ (P : List FileEntry → Type 0) where
       inl (lists_free next (subst LeavesFiles {x = None} (sym back.interrupted) tt) (lists.left next.files back.files))
   lists_step h action answer next spares lists (empties covers to) = inr to.nothing
 
-  lists_heard : (input : Input) (inputs : List Input) (h next : Machine) (first : Transcript) (answers : List Answer) → Hears h input first next
-      → NoneBegun changes_files (input ∷ inputs) (first.answers ++ answers) → Lists h → (Lists next ⊎ HasNothing next) × NoneBegun changes_files inputs answers
-  lists_heard Skipped inputs h next first answers heard none lists =
-      (inl (subst Lists (sym heard.1) lists), subst (λ (s : Transcript). NoneBegun changes_files inputs (s.answers ++ answers)) heard.0 none)
-  lists_heard Malformed inputs h next first answers heard none lists = (
+  lists_heard : (input : Input) (inputs : List Input) (h next : Machine) (mappings : List Mapping) (first : Transcript) (answers : List Answer) → Hears h input first next
+      → NoneBegun (λ (c : Begun). changes_files c.action) (begun_on mappings (input ∷ inputs) (first.answers ++ answers)) → Lists h
+      → (Lists next ⊎ HasNothing next) × ((told : List Mapping) × NoneBegun (λ (c : Begun). changes_files c.action) (begun_on told inputs answers))
+  lists_heard Skipped inputs h next mappings first answers heard none lists =
+      (inl (subst Lists (sym heard.1) lists), (mappings, subst (λ (s : Transcript). NoneBegun (λ (c : Begun). changes_files c.action) (begun_on mappings inputs (s.answers ++ answers))) heard.0 none))
+  lists_heard Malformed inputs h next mappings first answers heard none lists = (
     inl (subst Lists (sym heard.1) lists),
-    subst (λ (s : Transcript). NoneBegun changes_files (Malformed ∷ inputs) (s.answers ++ answers)) heard.0 none,
+    (mappings, subst (λ (s : Transcript). NoneBegun (λ (c : Begun). changes_files c.action) (begun_on mappings (Malformed ∷ inputs) (s.answers ++ answers))) heard.0 none),
   )
-  lists_heard Overlong inputs h next first answers heard none lists = (
+  lists_heard Overlong inputs h next mappings first answers heard none lists = (
     inl (subst Lists (sym heard.1) lists),
-    subst (λ (s : Transcript). NoneBegun changes_files (Overlong ∷ inputs) (s.answers ++ answers)) heard.0 none,
+    (mappings, subst (λ (s : Transcript). NoneBegun (λ (c : Begun). changes_files c.action) (begun_on mappings (Overlong ∷ inputs) (s.answers ++ answers))) heard.0 none),
   )
-  lists_heard (Asked action) inputs h next first answers heard none lists =
+  lists_heard (Asked action) inputs h next mappings first answers heard none lists =
       let taken = step_of h action first next heard in
-      let each = none-asked changes_files action inputs first taken.answer answers taken.answers none in
-      (lists_step h action taken.answer next (λ begun. not_done (changes_files action) taken.answer each.0 begun) lists taken.step, each.1)
+      let each = none-asked (λ (c : Begun). changes_files c.action) mappings action inputs first taken.answer answers taken.answers none in
+      (lists_step h action taken.answer next each.0 lists taken.step, (mappings_then mappings action taken.answer, each.1))
 
-  lists_run : (inputs : List Input) (h later : Machine) (said : Transcript) → Run h inputs said later → NoneBegun changes_files inputs said.answers
+  lists_run : (inputs : List Input) (h later : Machine) (mappings : List Mapping) (said : Transcript) → Run h inputs said later → NoneBegun (λ (c : Begun). changes_files c.action) (begun_on mappings inputs said.answers)
       → Lists h ⊎ HasNothing h → Lists later ⊎ HasNothing later
-  lists_run inputs h later said run none (inr nothing) = inr (nothing_run h later inputs said nothing run)
-  lists_run [] h later said run none (inl lists) = inl (subst Lists (sym run.1) lists)
-  lists_run (input ∷ inputs) h later said run none (inl lists) =
-      let split = subst (λ (s : Transcript). NoneBegun changes_files (input ∷ inputs) s.answers) run.3 none in
-      let heard = lists_heard input inputs h run.2 run.0 run.1.answers run.4 split lists in lists_run inputs run.2 later run.1 run.5 heard.1 heard.0
+  lists_run inputs h later mappings said run none (inr nothing) = inr (nothing_run h later inputs said nothing run)
+  lists_run [] h later mappings said run none (inl lists) = inl (subst Lists (sym run.1) lists)
+  lists_run (input ∷ inputs) h later mappings said run none (inl lists) =
+      let split = subst (λ (s : Transcript). NoneBegun (λ (c : Begun). changes_files c.action) (begun_on mappings (input ∷ inputs) s.answers)) run.3 none in
+      let heard = lists_heard input inputs h run.2 mappings run.0 run.1.answers run.4 split lists in
+      lists_run inputs run.2 later heard.1.0 run.1 run.5 heard.1.1 heard.0
 
-  listed_later : (inputs : List Input) (h later : Machine) (said : Transcript) → Run h inputs said later → NoneBegun changes_files inputs said.answers
-      → Lists h → P (files_listed later) ⊎ HasNothing later
-  listed_later inputs h later said run none lists = elim (lists_run inputs h later said run none (inl lists)) as (λ _. P (files_listed later) ⊎ HasNothing later) [
+  listed_later : (inputs : List Input) (h later : Machine) (said : Transcript) → Run h inputs said later
+      → NoneBegun (λ (c : Begun). changes_files c.action) (commands_begun h.mappings inputs said.answers) → Lists h → P (files_listed later) ⊎ HasNothing later
+  listed_later inputs h later said run none lists = elim (lists_run inputs h later (but_for_copies h.mappings) said run none (inl lists)) as (λ _. P (files_listed later) ⊎ HasNothing later) [
     | inl ls ↦ inl ls.now
     | inr nothing ↦ inr nothing
   ]

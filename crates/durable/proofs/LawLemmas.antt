@@ -1,20 +1,24 @@
 -- What was made durable stays: by induction over a run.
-use Rattle.std.proofs.Common.{◌≡◌, ◌⊎◌, inl, inr, ℕ, Bool, true, false, Option, None, List, [], ◌∷◌, ◌++◌, refl, sym, ap, subst, ◌∙◌}
-use Rattle.std.proofs.lemmas.Bool.{both_ways}
+use Rattle.std.proofs.Common.{◌≡◌, ◌⊎◌, inl, inr, ℕ, ◌/◌, ◌%◌, ◌&&◌, ◌||◌, Bool, true, false, Option, Some, None, List, [], ◌∷◌, ◌++◌, refl, sym, ap, subst, ◌∙◌, if◌then◌else◌}
+use Rattle.std.proofs.lemmas.Bool.{both_ways, or_parts, or_right}
 use Rattle.line_words.specs.declared.interruption.Interruption.{Interruption}
 use Rattle.line_words.specs.declared.interruption.Interruption.TheVariants.{Failed, PowerLost as Lost}
 use Rattle.reply_text.specs.Answer.{Answer}
 use Rattle.reply_text.specs.Answer.Answer.{Done}
+use Rattle.nvm_model.specs.Cell.{Cell}
+use Rattle.nvm_model.specs.Cell.Cell.{Bad, Kept}
+use Rattle.nvm_model.specs.Page.{Page, cell_of}
+use Rattle.nvm_model.specs.Storage.{Mapping}
 use Rattle.script_text.specs.Action.{Action}
-use Rattle.script_text.specs.Action.Action.{PoisonBlock, PoisonFile, PoisonMeta, PoisonVolume, Cut, CutIn, FailIn, Restart, Recover, Attr}
+use Rattle.script_text.specs.Action.Action.{PoisonBlock, PoisonFile, PoisonMeta, PoisonVolume, WeakenFile, WeakenVolume, Cut, CutIn, FailIn, Restart, Recover, Attr}
 use Rattle.script_text.specs.Script.{Input}
 use Rattle.script_text.specs.Script.Input.{Skipped, Malformed, Overlong, Asked}
 use Rattle.machine_model.specs.Machine.{Machine}
 use Rattle.word_tables.specs.declared.geometry.Geometry.{Geometry}
-use Rattle.machine_model.specs.Commands.{meaning, refusal}
+use Rattle.machine_model.specs.Commands.{meaning, refusal, unless_refused}
 use Rattle.machine_model.specs.Interrupted.{interrupted_answer}
 use Rattle.machine_model.specs.declared.needs.Needs.TheVariants.{Usable}
-use Rattle.machine_model.specs.Run.{Hears, Run, Transcript, followed_by}
+use Rattle.machine_model.specs.Run.{Hears, Run, Takes, Transcript, followed_by}
 use Rattle.machine_model.specs.declared.mode.Mode.TheVariants.{On, Off}
 use Rattle.std.specs.Prelude.{◌≢◌}
 use Rattle.machine_model.specs.OnPages.{pages_named}
@@ -23,26 +27,24 @@ use Rattle.durable.proofs.PowerLemmas.{powered_first, powered_heard, powered_res
 use Rattle.durable.specs.Place.{Place, byte_at_place}
 use Rattle.durable.specs.Place.{is_weak_at}
 use Rattle.durable.specs.Place.Place.{of_volume, of_blocks, of_file}
-use Rattle.durable.specs.Touching.{changes, is_begun, is_made_durable, may_make_durable, may_wear, poisons, weakens, wears_out}
-use Rattle.durable.specs.Durable.{BringBytes, BringsBytes, Does, Finishes, HasNothing, IsComplete, IsDone, IsDurable, Lasts, LastsPowered, NoneBegun, Remains, Spares, StaysPowered}
+use Rattle.durable.specs.Region.{holds}
+use Rattle.durable.specs.Touching.{changes, is_begun, is_made_durable, poisons, weakens, wears_out, wears_with}
+use Rattle.durable.specs.Mapped.{Begun, but_for_copies, commands_begun, mappings_then}
+use Rattle.durable.specs.Durable.{is_worn, BringBytes, BringsBytes, Does, Finishes, HasNothing, IsComplete, IsDone, IsDurable, Lasts, LastsPowered, Remains, Spares, StaysPowered}
 use Rattle.durable.proofs.StepKinds.{Alters, CoversNothing, Step}
 use Rattle.durable.proofs.SuitLemmas.{nowhere}
 use Rattle.durable.proofs.StepLemmas.{geometry_run, geometry_step, nothing_run, step_of}
 use Rattle.durable.proofs.StepKinds.Step.{idles, alters, stops, returns, remounts, empties}
-use Rattle.durable.proofs.LineLemmas.{HasOrLost, MayBe}
-use Rattle.durable.proofs.VolumeLemmas.{there-kept}
-use Rattle.durable.proofs.SparedLemmas.{KeptBy, SparedBy, SparesPlace}
+use Rattle.durable.proofs.MappedLemmas.{AreAlike, alike_then, begun_on, changed_alike, durable_alike, mappings-heard, none-asked, not_begun, once}
+use Rattle.durable.proofs.LineLemmas.{HasOrLost, LineKeeps, MayBe}
+use Rattle.durable.proofs.VolumeLemmas.{VolumeKeeps, there-kept}
+use Rattle.durable.proofs.SparedLemmas.{KeptBy, SparedBy}
 use Rattle.durable.proofs.KeepLemmas.{Keeps, PlaceKeeps, keeps-step, keeps_byte}
 use Rattle.durable.proofs.CoverLemmas.{covered_place}
 use Rattle.durable.proofs.ReadLemmas.{has}
 use Rattle.durable.proofs.RefusalLemmas.{is_on, refused_told}
 use Rattle.durable.proofs.RefusedAnswerLemmas.{is_refused}
 use Rattle.durable.proofs.WholeLemmas.{whole-heard, whole-run}
-
--- the answer of a first command, and those of the rest
-pub none-asked : (does : Action → Bool) (action : Action) (inputs : List Input) (first : Transcript) (answer : Answer) (answers : List Answer) → first.answers ≡ answer ∷ []
-    → NoneBegun does (Asked action ∷ inputs) (first.answers ++ answers) → (does action ≡ true → is_begun answer ≡ false) × NoneBegun does inputs answers
-none-asked does action inputs first answer answers is none = subst (λ s. NoneBegun does (Asked action ∷ inputs) (s ++ answers)) is none
 
 -- a command that covers something needs a machine that is on
 covers_usable : (h : Machine) (action : Action) (x : Place) → is_made_durable h action x ≡ true → (meaning action).needs ≡ Usable
@@ -119,54 +121,127 @@ pub done_by : (h next : Machine) (action : Action) (x : Place) → Finishes h ac
 done_by h next action x does covered = came_of h next action does (λ none. both_ways _ (none.bytes x) covered)
 
 -- no command does so to the place, or it may
-abbrev pub SparesOr : (Action → Place → Bool) → Type 0 → Place → List Input → List Answer → Type 0
-SparesOr does may x inputs answers = Spares does x inputs answers ⊎ may
+abbrev pub SparesOr : (List Mapping → Action → Place → Bool) → Type 0 → Place → List Begun → Type 0
+SparesOr does may x commands = Spares does x commands ⊎ may
 
-may-asked : (does : Action → Place → Bool) (may : Type 0) (action : Action) (inputs : List Input) (first : Transcript) (answer : Answer) (answers : List Answer) (x : Place)
-    → first.answers ≡ answer ∷ [] → SparesOr does may x (Asked action ∷ inputs) (first.answers ++ answers)
-    → (is_begun answer ≡ true → does action x ≡ true → may) × SparesOr does may x inputs answers
-may-asked does may action inputs first answer answers x is (inl spares) =
-    let each = none-asked (λ a. does a x) action inputs first answer answers is spares in
-    (λ begun did. absurd (both_ways (is_begun answer) (each.0 did) begun), inl each.1)
-may-asked does may action inputs first answer answers x is (inr so) = (λ begun did. so, inr so)
+may-asked : (does : List Mapping → Action → Place → Bool) (may : Type 0) (mappings : List Mapping) (action : Action) (inputs : List Input) (first : Transcript) (answer : Answer) (answers : List Answer)
+    (x : Place) → first.answers ≡ answer ∷ [] → SparesOr does may x (begun_on mappings (Asked action ∷ inputs) (first.answers ++ answers))
+    → (is_begun answer ≡ true → does mappings action x ≡ true → may) × SparesOr does may x (begun_on (mappings_then mappings action answer) inputs answers)
+may-asked does may mappings action inputs first answer answers x is (inl spares) =
+    let each = none-asked (λ (c : Begun). does c.mappings c.action x) mappings action inputs first answer answers is spares in
+    (λ begun did. absurd (both_ways _ (each.0 begun) did), inl each.1)
+may-asked does may mappings action inputs first answer answers x is (inr so) = (λ begun did. so, inr so)
 
-pub not_done : (does : Bool) (answer : Answer) → (does ≡ true → is_begun answer ≡ false) → is_begun answer ≡ true → does ≡ false
-not_done true answer only begun = absurd (both_ways (is_begun answer) (only refl) begun)
-not_done false answer only begun = refl
+-- a line that a command makes weak is not made durable by it, and it needs a machine that is on
+weakens_alone : (geo : Geometry) (mappings : List Mapping) (action : Action) (x : Place) → weakens action x ≡ true → wears_with geo mappings action x ≡ false
+weakens_alone geo mappings (WeakenFile name offset) x weakened = refl
+weakens_alone geo mappings (WeakenVolume offset) x weakened = refl
+weakens_alone geo mappings action x weakened = absurd (both_ways _ (nowhere x) weakened)
 
--- no command changes the place, and its line becomes weak or lost only where it may
-abbrev pub Allowed : MayBe → Geometry → Place → List Input → List Answer → Type 0
-Allowed since geo x inputs answers =
-    Spares changes x inputs answers × SparesOr poisons (since.lost ≡ true) x inputs answers × SparesOr weakens (since.weak ≡ true) x inputs answers
-    × SparesOr (λ action y. wears_out (may_make_durable geo action) y) (since.weak ≡ true → since.lost ≡ true) x inputs answers
+weakens_usable : (action : Action) (x : Place) → weakens action x ≡ true → (meaning action).needs ≡ Usable
+weakens_usable (WeakenFile name offset) x weakened = refl
+weakens_usable (WeakenVolume offset) x weakened = refl
+weakens_usable action x weakened = absurd (both_ways _ (nowhere x) weakened)
 
-module _ (since : MayBe) where
-  -- of a first command, and of the rest
-  allowed-asked : (geo : Geometry) (action : Action) (inputs : List Input) (first : Transcript) (answer : Answer) (answers : List Answer) (x : Place) → BringsBytes action
-      → first.answers ≡ answer ∷ [] → Allowed since geo x (Asked action ∷ inputs) (first.answers ++ answers)
-      → (is_begun answer ≡ true → SparesPlace since geo action x) × Allowed since geo x inputs answers
-  allowed-asked geo action inputs first answer answers x small is all =
-      let change = none-asked (λ a. changes a x) action inputs first answer answers is all.0 in
-      let poison = may-asked poisons (since.lost ≡ true) action inputs first answer answers x is all.1 in
-      let weaken = may-asked weakens (since.weak ≡ true) action inputs first answer answers x is all.2 in
-      let cover =
-      may-asked (λ action y. wears_out (may_make_durable geo action) y) (since.weak ≡ true → since.lost ≡ true) action inputs first answer answers x is all.3 in (
-        λ begun.
-            record {
-              change = not_done (changes action x) answer change.0 begun;
-              brings = small;
-              poison = poison.0 begun;
-              weaken = weaken.0 begun;
-              cover = cover.0 begun;
-            },
-        (change.1, poison.1, weaken.1, cover.1),
-      )
+-- a command that was begun was not refused
+begun_allowed : (h next : Machine) (action : Action) (said : Transcript) (answer : Answer) → said.answers ≡ answer ∷ [] → Hears h (Asked action) said next → is_begun answer ≡ true
+    → refusal h action ≡ None
+begun_allowed h next action said answer is heard begun = by_refusal (refusal h action) refl heard
+  where
+    by_refusal : (o : Option Answer) → refusal h action ≡ o → Takes h action (unless_refused h o ((meaning action).comes h)) said next → refusal h action ≡ None
+    by_refusal None none takes = none
+    by_refusal (Some refused) some takes =
+        let same : refused ≡ answer = cc (ap (λ s. s.answers) takes.0, is) in
+        absurd (both_ways (is_begun answer) (ap is_begun (sym same) ∙ not_begun refused (refused_told h action refused some)) begun)
+
+-- whether a line is weak once a command came that may have been begun
+abbrev weak_then : Bool → Bool → Action → Place → Bool
+weak_then weak begun action x = if begun then weak || weakens action x else weak
+
+-- a first command, if it was begun, and the rest
+worn-begun : (geo : Geometry) (x : Place) (weak begun : Bool) (one : Begun) (rest : List Begun) → is_worn geo x weak ((if begun then one ∷ [] else []) ++ rest) ≡ false
+    → (begun ≡ true → (weak && wears_with geo one.mappings one.action x) ≡ false) × (is_worn geo x (weak_then weak begun one.action x) rest ≡ false)
+worn-begun geo x weak true one rest none =
+    let parts = or_parts (weak && wears_with geo one.mappings one.action x) (is_worn geo x (weak || weakens one.action x) rest) none in (λ is. parts.0, parts.1)
+worn-begun geo x weak false one rest none = (λ is. cc is, none)
+
+module _ (lost cut : Bool) where
+  -- what may have become of a line that is weak, or is not
+  abbrev since : Bool → MayBe
+  since weak = record { weak = weak; lost = lost; cut = cut }
+
+  -- no command changes the place, and its line is lost only where it may be
+  abbrev Allowed : Geometry → Place → Bool → List Begun → Type 0
+  Allowed geo x weak commands = Spares changes x commands × SparesOr (λ mappings. poisons) (lost ≡ true) x commands × ((is_worn geo x weak commands ≡ false) ⊎ (lost ≡ true))
+
+  -- of a first command
+  record AllowsAsked (geo : Geometry) (mappings : List Mapping) (action : Action) (answer : Answer) (x : Place) (weak : Bool) : Type 0 where
+    change : is_begun answer ≡ true → changes mappings action x ≡ false
+    poison : is_begun answer ≡ true → poisons action x ≡ true → lost ≡ true
+    worn : is_begun answer ≡ true → ((weak && wears_with geo mappings action x) ≡ false) ⊎ (lost ≡ true)
+
+  -- and of the rest
+  allowed-asked : (geo : Geometry) (mappings : List Mapping) (action : Action) (inputs : List Input) (first : Transcript) (answer : Answer) (answers : List Answer) (x : Place) (weak : Bool)
+      → first.answers ≡ answer ∷ [] → Allowed geo x weak (begun_on mappings (Asked action ∷ inputs) (first.answers ++ answers))
+      → AllowsAsked geo mappings action answer x weak × Allowed geo x (weak_then weak (is_begun answer) action x) (begun_on (mappings_then mappings action answer) inputs answers)
+  allowed-asked geo mappings action inputs first answer answers x weak is all =
+      let change = none-asked (λ (c : Begun). changes c.mappings c.action x) mappings action inputs first answer answers is all.0 in
+      let poison = may-asked (λ ms. poisons) (lost ≡ true) mappings action inputs first answer answers x is all.1 in
+      let worn = by_worn all.2 in (record { change = change.0; poison = poison.0; worn = worn.0 }, (change.1, poison.1, worn.1))
+    where
+      rest : List Begun
+      rest = begun_on (mappings_then mappings action answer) inputs answers
+
+      by_worn : (is_worn geo x weak (begun_on mappings (Asked action ∷ inputs) (first.answers ++ answers)) ≡ false) ⊎ (lost ≡ true)
+          → (is_begun answer ≡ true → ((weak && wears_with geo mappings action x) ≡ false) ⊎ (lost ≡ true)) × ((is_worn geo x (weak_then weak (is_begun answer) action x) rest ≡ false) ⊎ (lost ≡ true))
+      by_worn (inr may) = (λ begun. inr may, inr may)
+      by_worn (inl none) =
+          let parts = worn-begun geo x weak (is_begun answer) (record { action = action; mappings = mappings }) rest
+          (subst (λ s. is_worn geo x weak (begun_on mappings (Asked action ∷ inputs) (s ++ answers)) ≡ false) is none) in
+          (λ begun. inl (parts.0 begun), inl parts.1)
+
+  -- what is the same of mappings that are alike
+  allows-alike : (geo : Geometry) (one other : List Mapping) (action : Action) (answer : Answer) (x : Place) (weak : Bool) → AreAlike one other → AllowsAsked geo other action answer x weak
+      → AllowsAsked geo one action answer x weak
+  allows-alike geo one other action answer x weak alike allows = record {
+    change = λ begun. ap (λ region. holds region x) (changed_alike action one other alike) ∙ allows.change begun;
+    poison = allows.poison;
+    worn = λ begun. elim (allows.worn begun) as (λ _. ((weak && wears_with geo one action x) ≡ false) ⊎ (lost ≡ true)) [
+      | inl none ↦ inl (ap (λ covered. weak && wears_out covered x) (durable_alike geo action one other alike) ∙ none)
+      | inr may ↦ inr may
+    ];
+  }
+
+  -- a line that is not weak may be one that is
+  line-weaker : (o : Option Cell) (i : ℕ) (v : Option ℕ) → LineKeeps (since false) o i v → LineKeeps (since true) o i v
+  line-weaker None i v keeps = keeps
+  line-weaker (Some Bad) i v keeps = keeps
+  line-weaker (Some (Kept weak words)) i v keeps = (λ is. refl, record { history = keeps.1.history; there = keeps.1.there; word = keeps.1.word })
+
+  pages-weaker : (pages : List Page) (i : ℕ) (v : Option ℕ) → VolumeKeeps (since false) pages i v → VolumeKeeps (since true) pages i v
+  pages-weaker pages i v (inl keeps) = inl (record { absent = keeps.absent; zero = keeps.zero })
+  pages-weaker pages i v (inr keeps) = inr (line-weaker (cell_of pages (i / 64)) (i % 64) v keeps)
+
+  place-weaker : (h : Machine) (x : Place) (v : Option ℕ) → PlaceKeeps (since false) h x v → PlaceKeeps (since true) h x v
+  place-weaker h (of_volume i) v keeps = pages-weaker h.volume i v keeps
+  place-weaker h (of_blocks i) v keeps = keeps
+  place-weaker h (of_file name i) v keeps = pages-weaker (pages_named name h.files) i v keeps
+
+  weaker : (h : Machine) (x : Place) (v : Option ℕ) (weak weakened : Bool) → (weakened ≡ true → h.interrupted ≡ None) → Keeps (since weak) h x v → Keeps (since (weak || weakened)) h x v
+  weaker h x v true weakened free keeps = keeps
+  weaker h x v false false free keeps = keeps
+  weaker h x v false true free keeps = record {
+    place = place-weaker h x v keeps.place;
+    spared = subst (λ o. SparedBy (since true) h.geometry h.mappings o x) (sym (free refl)) tt;
+    fine = keeps.fine;
+    settled = keeps.settled;
+  }
 
   -- the power may be cut, or it is on and stays so
   abbrev Power : Machine → Transcript → Type 0
-  Power h said = (since.cut ≡ true) ⊎ ((h.mode ≢ Off) × StaysPowered said)
+  Power h said = (cut ≡ true) ⊎ ((h.mode ≢ Off) × StaysPowered said)
 
-  power_off : (h : Machine) (said : Transcript) → Power h said → h.mode ≡ Off → since.cut ≡ true
+  power_off : (h : Machine) (said : Transcript) → Power h said → h.mode ≡ Off → cut ≡ true
   power_off h said (inl cuts) off = cuts
   power_off h said (inr on) off = absurd (on.0 off)
 
@@ -176,72 +251,122 @@ module _ (since : MayBe) where
       inr (powered_heard h next input first on.0 (powered_first first rest on.1) heard, powered_rest first rest on.1)
 
   -- the place keeps its byte, or nothing is there
-  abbrev KeepsOr : Machine → Place → Option ℕ → Type 0
-  KeepsOr h x v = Keeps since h x v ⊎ HasNothing h
+  abbrev KeepsOr : Bool → Machine → Place → Option ℕ → Type 0
+  KeepsOr weak h x v = Keeps (since weak) h x v ⊎ HasNothing h
 
-  keeps-heard : (input : Input) (inputs : List Input) (h next : Machine) (first : Transcript) (answers : List Answer) (x : Place) (v : Option ℕ) → BringBytes (input ∷ inputs)
-      → (h.mode ≡ Off → since.cut ≡ true)
-      → Hears h input first next → Allowed since h.geometry x (input ∷ inputs) (first.answers ++ answers) → Keeps since h x v
-      → KeepsOr next x v × Allowed since next.geometry x inputs answers × BringBytes inputs
-  keeps-heard Skipped inputs h next first answers x v bytes off heard all keeps = (
-    inl (subst (λ m. Keeps since m x v) (sym heard.1) keeps),
-    subst (λ m. Allowed since m.geometry x inputs answers) (sym heard.1) (subst (λ (s : Transcript). Allowed since h.geometry x inputs (s.answers ++ answers)) heard.0 all),
-    bytes,
-  )
-  keeps-heard Malformed inputs h next first answers x v bytes off heard all keeps = (
-    inl (subst (λ m. Keeps since m x v) (sym heard.1) keeps),
-    subst (λ m. Allowed since m.geometry x inputs answers) (sym heard.1)
-        (subst (λ (s : Transcript). Allowed since h.geometry x (Malformed ∷ inputs) (s.answers ++ answers)) heard.0 all),
-    bytes,
-  )
-  keeps-heard Overlong inputs h next first answers x v bytes off heard all keeps = (
-    inl (subst (λ m. Keeps since m x v) (sym heard.1) keeps),
-    subst (λ m. Allowed since m.geometry x inputs answers) (sym heard.1)
-        (subst (λ (s : Transcript). Allowed since h.geometry x (Overlong ∷ inputs) (s.answers ++ answers)) heard.0 all),
-    bytes,
-  )
-  keeps-heard (Asked action) inputs h next first answers x v bytes off heard all keeps =
+  -- after a command that is allowed
+  keeps-asked : (h next : Machine) (action : Action) (answer : Answer) (x : Place) (v : Option ℕ) (weak : Bool) → BringsBytes action → (h.mode ≡ Off → cut ≡ true)
+      → (is_begun answer ≡ true → refusal h action ≡ None) → AllowsAsked h.geometry h.mappings action answer x weak → Keeps (since weak) h x v → Step h action answer next
+      → KeepsOr (weak_then weak (is_begun answer) action x) next x v
+  keeps-asked h next action answer x v weak small off allowed allows keeps step = by_begun (is_begun answer) refl
+    where
+      -- it makes no line durable that is weak then, where none may be lost
+      covers : (w weakened : Bool) → weakens action x ≡ weakened → ((w && wears_with h.geometry h.mappings action x) ≡ false) ⊎ (lost ≡ true)
+          → wears_with h.geometry h.mappings action x ≡ true → (w || weakened) ≡ true → lost ≡ true
+      covers w weakened is (inr may) worn weak = may
+      covers true weakened is (inl none) worn weak = absurd (both_ways _ none worn)
+      covers false true is (inl none) worn weak = absurd (both_ways _ (weakens_alone h.geometry h.mappings action x is) worn)
+      covers false false is (inl none) worn weak = cc weak
+
+      by_begun : (begun : Bool) → is_begun answer ≡ begun → KeepsOr (weak_then weak begun action x) next x v
+      by_begun false is = keeps-step (since weak) h action answer next x v small (λ begun. absurd (both_ways (is_begun answer) is begun)) off keeps step
+      by_begun true is =
+          keeps-step (since (weak || weakens action x)) h action answer next x v small
+          (λ begun. record {
+            change = allows.change begun;
+            brings = small;
+            poison = allows.poison begun;
+            weaken = λ weakened. or_right weak (weakens action x) weakened;
+            cover = covers weak (weakens action x) refl (allows.worn begun);
+          }) off
+          (weaker h x v weak (weakens action x) (λ weakened. keeps.settled (is_on h action (weakens_usable action x weakened) (allowed is))) keeps) step
+
+  -- the mappings are those that were told, and the commands that are left are allowed
+  record Follows (h : Machine) (mappings : List Mapping) (weak : Bool) (x : Place) (inputs : List Input) (answers : List Answer) : Type 0 where
+    alike : AreAlike h.mappings mappings
+    allowed : Allowed h.geometry x weak (begun_on mappings inputs answers)
+    bytes : BringBytes inputs
+
+  -- what was kept, and what is left
+  record Goes (next : Machine) (inputs : List Input) (answers : List Answer) (x : Place) (v : Option ℕ) : Type 0 where
+    mappings : List Mapping
+    weak : Bool
+    keeps : KeepsOr weak next x v
+    follows : Follows next mappings weak x inputs answers
+
+  keeps-heard : (input : Input) (inputs : List Input) (h next : Machine) (mappings : List Mapping) (weak : Bool) (first : Transcript) (answers : List Answer) (x : Place) (v : Option ℕ)
+      → (h.mode ≡ Off → cut ≡ true) → Hears h input first next → Follows h mappings weak x (input ∷ inputs) (first.answers ++ answers) → Keeps (since weak) h x v
+      → Goes next inputs answers x v
+  keeps-heard Skipped inputs h next mappings weak first answers x v off heard all keeps = record {
+    mappings = mappings;
+    weak = weak;
+    keeps = inl (subst (λ m. Keeps (since weak) m x v) (sym heard.1) keeps);
+    follows = record {
+      alike = ap (λ (m : Machine). but_for_copies m.mappings) heard.1 ∙ all.alike;
+      allowed = subst (λ (m : Machine). Allowed m.geometry x weak (begun_on mappings inputs answers)) (sym heard.1)
+          (subst (λ (s : Transcript). Allowed h.geometry x weak (begun_on mappings inputs (s.answers ++ answers))) heard.0 all.allowed);
+      bytes = all.bytes;
+    };
+  }
+  keeps-heard Malformed inputs h next mappings weak first answers x v off heard all keeps = record {
+    mappings = mappings;
+    weak = weak;
+    keeps = inl (subst (λ m. Keeps (since weak) m x v) (sym heard.1) keeps);
+    follows = record {
+      alike = ap (λ (m : Machine). but_for_copies m.mappings) heard.1 ∙ all.alike;
+      allowed = subst (λ (m : Machine). Allowed m.geometry x weak (begun_on mappings inputs answers)) (sym heard.1)
+          (subst (λ (s : Transcript). Allowed h.geometry x weak (begun_on mappings (Malformed ∷ inputs) (s.answers ++ answers))) heard.0 all.allowed);
+      bytes = all.bytes;
+    };
+  }
+  keeps-heard Overlong inputs h next mappings weak first answers x v off heard all keeps = record {
+    mappings = mappings;
+    weak = weak;
+    keeps = inl (subst (λ m. Keeps (since weak) m x v) (sym heard.1) keeps);
+    follows = record {
+      alike = ap (λ (m : Machine). but_for_copies m.mappings) heard.1 ∙ all.alike;
+      allowed = subst (λ (m : Machine). Allowed m.geometry x weak (begun_on mappings inputs answers)) (sym heard.1)
+          (subst (λ (s : Transcript). Allowed h.geometry x weak (begun_on mappings (Overlong ∷ inputs) (s.answers ++ answers))) heard.0 all.allowed);
+      bytes = all.bytes;
+    };
+  }
+  keeps-heard (Asked action) inputs h next mappings weak first answers x v off heard all keeps =
       let taken = step_of h action first next heard in
-      let each = allowed-asked h.geometry action inputs first taken.answer answers x bytes.0 taken.answers all in (
-        keeps-step since h action taken.answer next x v bytes.0 each.0 off keeps taken.step,
-        subst (λ g. Allowed since g x inputs answers) (sym (geometry_step h action taken.answer next taken.step)) each.1,
-        bytes.1,
-      )
+      let each = allowed-asked h.geometry mappings action inputs first taken.answer answers x weak taken.answers all.allowed in
+      record {
+        mappings = mappings_then mappings action taken.answer;
+        weak = weak_then weak (is_begun taken.answer) action x;
+        keeps = keeps-asked h next action taken.answer x v weak all.bytes.0 off (begun_allowed h next action first taken.answer taken.answers heard)
+            (allows-alike h.geometry h.mappings mappings action taken.answer x weak all.alike each.0) keeps taken.step;
+        follows = record {
+          alike = mappings-heard h next action first taken.answer taken.answers heard ∙ alike_then action taken.answer h.mappings mappings all.alike;
+          allowed = subst (λ g. Allowed g x (weak_then weak (is_begun taken.answer) action x) (begun_on (mappings_then mappings action taken.answer) inputs answers))
+              (sym (geometry_step h action taken.answer next taken.step)) each.1;
+          bytes = all.bytes.1;
+        };
+      }
 
-  keeps-run : (inputs : List Input) (h later : Machine) (said : Transcript) (x : Place) (v : Option ℕ) → BringBytes inputs → Run h inputs said later → Power h said
-      → Allowed since h.geometry x inputs said.answers → KeepsOr h x v → KeepsOr later x v
-  keeps-run inputs h later said x v bytes run power all (inr nothing) = inr (nothing_run h later inputs said nothing run)
-  keeps-run [] h later said x v bytes run power all (inl keeps) = inl (subst (λ m. Keeps since m x v) (sym run.1) keeps)
-  keeps-run (input ∷ inputs) h later said x v bytes run power all (inl keeps) =
-      let split = subst (λ (s : Transcript). Allowed since h.geometry x (input ∷ inputs) s.answers) run.3 all in
+  keeps-run : (inputs : List Input) (h later : Machine) (mappings : List Mapping) (weak : Bool) (said : Transcript) (x : Place) (v : Option ℕ) → Run h inputs said later → Power h said
+      → Follows h mappings weak x inputs said.answers → KeepsOr weak h x v → HasOrLost lost (byte_at_place later x) v ⊎ HasNothing later
+  keeps-run inputs h later mappings weak said x v run power all (inr nothing) = inr (nothing_run h later inputs said nothing run)
+  keeps-run [] h later mappings weak said x v run power all (inl keeps) = inl (keeps_byte (since weak) later x v (subst (λ m. Keeps (since weak) m x v) (sym run.1) keeps))
+  keeps-run (input ∷ inputs) h later mappings weak said x v run power all (inl keeps) =
+      let split = subst (λ (s : Transcript). Follows h mappings weak x (input ∷ inputs) s.answers) run.3 all in
       let on = subst (Power h) run.3 power in
-      let heard = keeps-heard input inputs h run.2 run.0 run.1.answers x v bytes (power_off h (followed_by run.0 run.1) on) run.4 split keeps in
-      keeps-run inputs run.2 later run.1 x v heard.2 run.5 (power_next h run.2 input run.0 run.1 run.4 on) heard.1 heard.0
+      let heard = keeps-heard input inputs h run.2 mappings weak run.0 run.1.answers x v (power_off h (followed_by run.0 run.1) on) run.4 split keeps in
+      keeps-run inputs run.2 later heard.mappings heard.weak run.1 x v run.5 (power_next h run.2 input run.0 run.1 run.4 on) heard.follows heard.keeps
 
-  byte_or : (h : Machine) (x : Place) (v : Option ℕ) → KeepsOr h x v → HasOrLost since.lost (byte_at_place h x) v ⊎ HasNothing h
-  byte_or h x v (inl keeps) = inl (keeps_byte since h x v keeps)
-  byte_or h x v (inr nothing) = inr nothing
-
+module _ (since : MayBe) where
   made : (h next : Machine) (action : Action) (x : Place) → Finishes h action next → is_made_durable h action x ≡ true → Keeps since next x (byte_at_place next x)
   made h next action x does covered =
       let came = done_by h next action x does covered in
       let free = came.to.interrupted ∙ does.whole.settled (is_on h action (covers_usable h action x covered) came.none) in
       record {
         place = covered_place since h action next x does.whole covered came.none came.to;
-        spared = subst (λ o. SparedBy since next.geometry o x) (sym free) tt;
+        spared = subst (λ o. SparedBy since next.geometry next.mappings o x) (sym free) tt;
         fine = subst (λ o. KeptBy o next.files) (sym free) tt;
         settled = λ on. free;
       }
-
--- the line may be lost; it was not harmed; it is weak, and was not synced
-abbrev lost_since : Bool → MayBe
-lost_since cut = record { weak = true; lost = true; cut = cut }
-
-abbrev unharmed_since : Bool → MayBe
-unharmed_since cut = record { weak = false; lost = false; cut = cut }
-
-abbrev weak_since : Bool → MayBe
-weak_since cut = record { weak = true; lost = false; cut = cut }
 
 not_lost : (h : Machine) (x : Place) (v : Option ℕ) → HasOrLost false (byte_at_place h x) v ⊎ HasNothing h → (byte_at_place h x ≡ v) ⊎ HasNothing h
 not_lost h x v (inl (inl is)) = inl is
@@ -251,24 +376,19 @@ not_lost h x v (inr nothing) = inr nothing
 -- a place that keeps its byte, whatever a run does, where the power may be cut or is not
 remains : (cut : Bool) (h : Machine) (x : Place) (v : Option ℕ) → IsComplete h → ((weak lost : Bool) → Keeps (record { weak = weak; lost = lost; cut = cut }) h x v)
     → (inputs : List Input) (said : Transcript) (later : Machine) → BringBytes inputs → Run h inputs said later → (cut ≡ true) ⊎ ((h.mode ≢ Off) × StaysPowered said)
-    → Remains inputs said.answers later x v
+    → Remains (commands_begun h.mappings inputs said.answers) later x v
 remains cut h x v whole keeps inputs said later bytes run power = record {
-  has = λ spares.
-      has true later x v (whole-run inputs h later said whole run)
-      (byte_or (lost_since cut) later x v
-      (keeps-run (lost_since cut) inputs h later said x v bytes run power (spares, inr refl, inr refl, inr (λ weak. refl)) (inl (keeps true true))));
-  unharmed = λ spares poison weaken. not_lost later x v (by_harm spares poison weaken);
+  has = λ spares. has true later x v (whole-run inputs h later said whole run) (kept true (spares, inr refl, inr refl));
+  unharmed = λ spares poison worn.
+      not_lost later x v (kept false (spares, inl poison, inl (subst (λ g. is_worn g x false commands ≡ false) (geometry_run inputs h later said run) worn)));
 }
   where
-    by_harm : Spares changes x inputs said.answers → Spares poisons x inputs said.answers
-        → Spares weakens x inputs said.answers ⊎ Spares (may_wear later) x inputs said.answers → HasOrLost false (byte_at_place later x) v ⊎ HasNothing later
-    by_harm spares poison (inl weaken) =
-        byte_or (unharmed_since cut) later x v
-        (keeps-run (unharmed_since cut) inputs h later said x v bytes run power (spares, inl poison, inl weaken, inr (λ weak. cc weak)) (inl (keeps false false)))
-    by_harm spares poison (inr cover) =
-        let synced = subst (λ g. Spares (λ action y. wears_out (may_make_durable g action) y) x inputs said.answers) (geometry_run inputs h later said run) cover in
-        byte_or (weak_since cut) later x v
-        (keeps-run (weak_since cut) inputs h later said x v bytes run power (spares, inl poison, inr refl, inl synced) (inl (keeps true false)))
+    commands : List Begun
+    commands = commands_begun h.mappings inputs said.answers
+
+    kept : (lost : Bool) → Allowed lost cut h.geometry x false commands → HasOrLost lost (byte_at_place later x) v ⊎ HasNothing later
+    kept lost all =
+        keeps-run lost cut inputs h later (but_for_copies h.mappings) false said x v run power (record { alike = once h.mappings; allowed = all; bytes = bytes }) (inl (keeps false lost))
 
 pub lasts : (h : Machine) (x : Place) (v : Option ℕ) → IsComplete h → ((since : MayBe) → Keeps since h x v) → Lasts h x v
 lasts h x v whole keeps inputs said later bytes run =
@@ -287,7 +407,7 @@ lasts_powered h x whole on strong inputs said later bytes run powered =
     remains false h x (byte_at_place h x) whole
     (λ weak lost. record {
       place = there h x weak lost whole strong;
-      spared = subst (λ o. SparedBy (record { weak = weak; lost = lost; cut = false }) h.geometry o x) (sym (whole.settled on)) tt;
+      spared = subst (λ o. SparedBy (record { weak = weak; lost = lost; cut = false }) h.geometry h.mappings o x) (sym (whole.settled on)) tt;
       fine = subst (λ o. KeptBy o h.files) (sym (whole.settled on)) tt;
       settled = whole.settled;
     })

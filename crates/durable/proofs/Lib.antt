@@ -7,6 +7,7 @@ pub mod PresenceLemmas
 pub mod LineLemmas
 pub mod RefusedAnswerLemmas
 pub mod RefusalLemmas
+pub mod MappedLemmas
 pub mod SparedLemmas
 pub mod VolumeLemmas
 pub mod BlockLemmas
@@ -47,3 +48,4 @@ pub mod TellingLemmas
 pub mod ToldLemmas
 pub mod OrderLemmas
 pub mod FoundLemmas
+pub mod WithinLemmas

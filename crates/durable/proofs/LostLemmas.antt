@@ -1,5 +1,5 @@
 -- What is lost, and that it stays lost.
-use Rattle.std.proofs.Common.{◌≡◌, inl, inr, ℕ, ◌+◌, ◌*◌, ◌/◌, ◌%◌, ◌≤◌, true, false, nat_le, nat_lt, Option, Some, None, option_map, List, slice_index_or, refl, sym, ap, subst, ◌∙◌, arith}
+use Rattle.std.proofs.Common.{◌≡◌, inl, inr, ℕ, ◌+◌, ◌*◌, ◌/◌, ◌%◌, ◌≤◌, true, false, nat_le, nat_lt, Option, Some, None, option_map, List, [], ◌∷◌, slice_index_or, refl, sym, ap, subst, ◌∙◌, arith}
 use Rattle.std.specs.Prelude.{slice_index}
 use Rattle.std.proofs.lemmas.Bool.{and_parts, both_ways, eqb-true, or_parts}
 use Rattle.std.proofs.lemmas.Bool.Decides.{nat_tests}
@@ -34,7 +34,7 @@ use Rattle.durable.proofs.StepKinds.{volume_after}
 use Rattle.durable.proofs.FileLineLemmas.{LineFlushed, named-marked, persist-flushed}
 use Rattle.durable.proofs.SparedLemmas.{KeptBy, SparedBy}
 use Rattle.durable.proofs.KeepLemmas.{PlaceKeeps}
-use Rattle.durable.proofs.CoverLemmas.{file_renewed, may_cover, was_bad}
+use Rattle.durable.proofs.CoverLemmas.{file_renewed, no_volume, was_bad}
 use Rattle.durable.proofs.LineLemmas.{MayBe, lost-kept}
 use Rattle.durable.proofs.BlockLemmas.{lost_there}
 use Rattle.durable.proofs.LawLemmas.{done_by, lasts}
@@ -44,7 +44,7 @@ use Rattle.durable.proofs.RefusedAnswerLemmas.{is_refused}
 pub stays_lost : (h : Machine) (x : Place) → IsComplete h → h.mode ≡ On → byte_at_place h x ≡ None → Lasts h x None
 stays_lost h x whole on lost = lasts h x None whole (λ since. record {
   place = by_place since x lost;
-  spared = subst (λ o. SparedBy since h.geometry o x) (sym (whole.settled on)) tt;
+  spared = subst (λ o. SparedBy since h.geometry h.mappings o x) (sym (whole.settled on)) tt;
   fine = subst (λ o. KeptBy o h.files) (sym (whole.settled on)) tt;
   settled = whole.settled;
 })
@@ -131,10 +131,10 @@ worn_in_volume h next (VPSync address len) i covered weak none to =
 worn_in_volume h next (ClearVolume offset) i covered weak none to =
     absurd (both_ways (is_weak_line (cell_of h.volume (i / 64)))
     (ap (λ n. is_weak_line (cell_of h.volume n)) (eqb-true (i / 64) (offset / 64) covered) ∙ ap is_weak_line (was_bad h offset none)) weak)
-worn_in_volume h next (Sync handle offset len) i covered weak none to = let no = may_cover h (Sync handle offset len) (of_volume i) covered in cc no
-worn_in_volume h next (Flush handle spans) i covered weak none to = let no = may_cover h (Flush handle spans) (of_volume i) covered in cc no
-worn_in_volume h next (FlushVerify handle spans) i covered weak none to = let no = may_cover h (FlushVerify handle spans) (of_volume i) covered in cc no
-worn_in_volume h next (DeepFlush handle spans) i covered weak none to = let no = may_cover h (DeepFlush handle spans) (of_volume i) covered in cc no
+worn_in_volume h next (Sync handle offset len) i covered weak none to = absurd (no_volume h.mappings handle (record { start = offset; len = len } ∷ []) i covered)
+worn_in_volume h next (Flush handle spans) i covered weak none to = absurd (no_volume h.mappings handle spans i covered)
+worn_in_volume h next (FlushVerify handle spans) i covered weak none to = absurd (no_volume h.mappings handle spans i covered)
+worn_in_volume h next (DeepFlush handle spans) i covered weak none to = absurd (no_volume h.mappings handle spans i covered)
 worn_in_volume h next action i covered weak none to = cc covered
 
 pub worn_out : (h next : Machine) (action : Action) (x : Place) → Finishes h action next → wears h action x ≡ true → is_weak_at h x ≡ true → byte_at_place next x ≡ None

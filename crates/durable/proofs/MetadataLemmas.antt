@@ -18,7 +18,7 @@ use Rattle.machine_model.specs.OnEvents.{told_event}
 use Rattle.machine_model.specs.OnPages.{pages_named}
 use Rattle.nvm_base.specs.declared.units.Span.{Span}
 use Rattle.nvm_model.specs.Page.{Page}
-use Rattle.nvm_model.specs.Storage.{Event}
+use Rattle.nvm_model.specs.Storage.{Event, Mapping}
 use Rattle.nvm_model.specs.Touched.{next_bad_touched, persist_spans}
 use Rattle.machine_model.specs.declared.mode.Mode.TheVariants.{Stopped}
 use Rattle.script_text.specs.Action.{Action}
@@ -39,6 +39,8 @@ use Rattle.durable.specs.Place.{Place}
 use Rattle.durable.specs.Place.Place.{of_volume, of_blocks, of_file}
 use Rattle.durable.specs.Touching.{is_begun, unmounts}
 use Rattle.durable.specs.Durable.{HasNothing, IsDone, Spares}
+use Rattle.durable.specs.Mapped.{Begun, but_for_copies, commands_begun, mappings_then}
+use Rattle.durable.proofs.MappedLemmas.{begun_on, none-asked}
 use Rattle.durable.proofs.HandleLemmas.{flush_done, of_flush, of_load, of_map, of_store}
 use Rattle.durable.proofs.RefusalLemmas.{refused_told}
 use Rattle.durable.proofs.RefusedAnswerLemmas.{is_refused}
@@ -153,29 +155,35 @@ poisoned_all line (of_volume i) = refl
 poisoned_all line (of_blocks i) = refl
 poisoned_all line (of_file name i) = refl
 
-same_heard : (h next : Machine) (input : Input) (inputs : List Input) (said : Transcript) (answers : List Answer) (x : Place) → Hears h input said next
-    → Spares unmounts x (input ∷ inputs) (said.answers ++ answers) → (next.bad_meta ≡ h.bad_meta) × Spares unmounts x inputs answers
-same_heard h next Skipped inputs said answers x heard spares = (ap (λ m. m.bad_meta) heard.1, subst (λ (s : Transcript). Spares unmounts x inputs (s.answers ++ answers)) heard.0 spares)
-same_heard h next Malformed inputs said answers x heard spares =
-    (ap (λ m. m.bad_meta) heard.1, subst (λ (s : Transcript). Spares unmounts x (Malformed ∷ inputs) (s.answers ++ answers)) heard.0 spares)
-same_heard h next Overlong inputs said answers x heard spares =
-    (ap (λ m. m.bad_meta) heard.1, subst (λ (s : Transcript). Spares unmounts x (Overlong ∷ inputs) (s.answers ++ answers)) heard.0 spares)
-same_heard h next (Asked action) inputs said answers x heard spares =
+same_heard : (h next : Machine) (input : Input) (inputs : List Input) (mappings : List Mapping) (said : Transcript) (answers : List Answer) (x : Place) → Hears h input said next
+    → Spares (λ ms. unmounts) x (begun_on mappings (input ∷ inputs) (said.answers ++ answers))
+    → (next.bad_meta ≡ h.bad_meta) × ((told : List Mapping) × Spares (λ ms. unmounts) x (begun_on told inputs answers))
+same_heard h next Skipped inputs mappings said answers x heard spares =
+    (ap (λ m. m.bad_meta) heard.1, (mappings, subst (λ (s : Transcript). Spares (λ ms. unmounts) x (begun_on mappings inputs (s.answers ++ answers))) heard.0 spares))
+same_heard h next Malformed inputs mappings said answers x heard spares =
+    (ap (λ m. m.bad_meta) heard.1, (mappings, subst (λ (s : Transcript). Spares (λ ms. unmounts) x (begun_on mappings (Malformed ∷ inputs) (s.answers ++ answers))) heard.0 spares))
+same_heard h next Overlong inputs mappings said answers x heard spares =
+    (ap (λ m. m.bad_meta) heard.1, (mappings, subst (λ (s : Transcript). Spares (λ ms. unmounts) x (begun_on mappings (Overlong ∷ inputs) (s.answers ++ answers))) heard.0 spares))
+same_heard h next (Asked action) inputs mappings said answers x heard spares =
     let mark = marked h action said next heard in
-    let each = subst (λ s. Spares unmounts x (Asked action ∷ inputs) (s ++ answers)) mark.answers spares in (
+    let each = none-asked (λ (c : Begun). unmounts c.action x) mappings action inputs said mark.answer answers mark.answers spares in (
       elim mark.marks as (λ _. next.bad_meta ≡ h.bad_meta) [
         | inl same ↦ same
-        | inr line ↦ absurd (both_ways (is_begun mark.answer) (each.0 (ap (λ a. unmounts a x) line.is ∙ poisoned_all line.line x)) (ap is_begun line.done))
+        | inr line ↦ absurd (both_ways (unmounts action x) (each.0 (ap is_begun line.done)) (ap (λ a. unmounts a x) line.is ∙ poisoned_all line.line x))
       ],
-      each.1,
+      (mappings_then mappings action mark.answer, each.1),
     )
 
-pub same_metadata : (h later : Machine) (x : Place) (inputs : List Input) (said : Transcript) → Run h inputs said later → Spares unmounts x inputs said.answers
-    → later.bad_meta ≡ h.bad_meta
-same_metadata h later x [] said run spares = ap (λ m. m.bad_meta) run.1
-same_metadata h later x (input ∷ inputs) said run spares =
-    let split = subst (λ (s : Transcript). Spares unmounts x (input ∷ inputs) s.answers) run.3 spares in
-    let first = same_heard h run.2 input inputs run.0 run.1.answers x run.4 split in same_metadata run.2 later x inputs run.1 run.5 first.1 ∙ first.0
+same_run : (h later : Machine) (x : Place) (inputs : List Input) (mappings : List Mapping) (said : Transcript) → Run h inputs said later
+    → Spares (λ ms. unmounts) x (begun_on mappings inputs said.answers) → later.bad_meta ≡ h.bad_meta
+same_run h later x [] mappings said run spares = ap (λ m. m.bad_meta) run.1
+same_run h later x (input ∷ inputs) mappings said run spares =
+    let split = subst (λ (s : Transcript). Spares (λ ms. unmounts) x (begun_on mappings (input ∷ inputs) s.answers)) run.3 spares in
+    let first = same_heard h run.2 input inputs mappings run.0 run.1.answers x run.4 split in same_run run.2 later x inputs first.1.0 run.1 run.5 first.1.1 ∙ first.0
+
+pub same_metadata : (h later : Machine) (x : Place) (inputs : List Input) (said : Transcript) → Run h inputs said later
+    → Spares (λ ms. unmounts) x (commands_begun h.mappings inputs said.answers) → later.bad_meta ≡ h.bad_meta
+same_metadata h later x inputs said run spares = same_run h later x inputs (but_for_copies h.mappings) said run spares
 
 -- those that are bad stay so
 contains-first : (x : ℕ) (xs : List ℕ) → Contains (x ∷ xs) x

@@ -1,5 +1,5 @@
 -- What a read over a lost byte names.
-use Rattle.std.proofs.Common.{◌≡◌, inl, inr, ℕ, zero, suc, ◌+◌, ◌-◌, ◌*◌, ◌/◌, ◌%◌, ◌<◌, ◌≤◌, Bool, true, false, cond, Option, Some, None, option_map, List, [], ◌∷◌, length, nat_lt, position, is_none, slice_index_or, refl, sym, ap, subst, ◌∙◌, arith}
+use Rattle.std.proofs.Common.{◌≡◌, inl, inr, ℕ, zero, suc, ◌+◌, ◌-◌, ◌*◌, ◌/◌, ◌%◌, ◌<◌, ◌≤◌, Bool, true, false, cond, Option, Some, None, option_map, List, [], ◌∷◌, length, nat_lt, position, is_none, slice_index_or, refl, sym, ap, subst, ◌∙◌, arith, if◌then◌else◌}
 use Rattle.std.specs.Prelude.{slice_index}
 use Rattle.std.specs.List.{position_or_len, range_with_len}
 use Rattle.std.proofs.lemmas.Bool.{both_ways, cases_Bool, cases_eq, ltb-false}
@@ -13,7 +13,7 @@ use Rattle.nvm_model.specs.Cell.{Cell, lowest_touched, touches}
 use Rattle.nvm_model.specs.Cell.Cell.{Bad, Kept}
 use Rattle.nvm_model.specs.Numbered.{is_among}
 use Rattle.nvm_model.specs.Page.{Page, cell_of, first_bad_line, is_bad_cell}
-use Rattle.nvm_model.specs.Storage.{Block}
+use Rattle.nvm_model.specs.Storage.{Block, Mapping}
 use Rattle.nvm_model.specs.Storage.Block.{Absent, Scarred, Data}
 use Rattle.page_lines.proofs.LoopLemmas.{touches-within, within-touches}
 use Rattle.pm_volume.proofs.BadLemmas.{none_touched}
@@ -21,27 +21,30 @@ use Rattle.block_device.specs.Refusals.Refusal.{Unreadable}
 use Rattle.pm_volume.specs.Refusals.{poisoned_at}
 use Rattle.file_pages.specs.Refusals.{poisoned_at as poisoned_in_file}
 use Rattle.reply_text.specs.declared.reply.Why.{Why}
+use Rattle.reply_text.specs.declared.reply.Why.TheVariants as because
 use Rattle.reply_text.specs.Answer.{Answer}
-use Rattle.reply_text.specs.Answer.Answer.{PoisonFile, PoisonVolume, Refused, RefusedMeta}
+use Rattle.reply_text.specs.Answer.Answer.{Done, PoisonFile, PoisonVolume, Refused, RefusedMeta}
 use Rattle.machine_model.specs.declared.mode.Mode.{Mode}
 use Rattle.machine_model.specs.declared.mode.Mode.TheVariants.{Stopped}
 use Rattle.machine_model.specs.declared.needs.Needs.{Needs}
 use Rattle.machine_model.specs.declared.needs.Needs.TheVariants.{Usable}
 use Rattle.machine_model.specs.Lines.{lowest}
 use Rattle.script_text.specs.Action.{Action}
-use Rattle.script_text.specs.Action.Action.{BRead, FRead, VLoad}
+use Rattle.script_text.specs.Action.Action.{BRead, FRead, Load, VLoad}
 use Rattle.script_text.specs.Script.Input.{Asked}
 use Rattle.machine_model.specs.Machine.{Machine}
+use Rattle.machine_model.specs.Machine.Fate.{Gives}
 use Rattle.machine_model.specs.Commands.{early_refusal, meaning, refusal, unless_refused}
-use Rattle.machine_model.specs.Meaning.{Reasons, first_reason, mode_refusal}
+use Rattle.machine_model.specs.Meaning.{Reasons, first_reason, mode_refusal, most_refusal, no_reasons}
 use Rattle.machine_model.specs.OnBlocks.{refusal_answer}
-use Rattle.machine_model.specs.OnPages.{page_answer, pages_named}
+use Rattle.machine_model.specs.OnMappings.{load_through, read_copy}
+use Rattle.machine_model.specs.OnPages.{fread, page_answer, pages_named}
 use Rattle.machine_model.specs.OnVolume.{volume_answer}
 use Rattle.machine_model.specs.Run.{Hears, Takes, Transcript}
 use Rattle.durable.specs.Place.{block_has, byte_at_place, line_has}
 use Rattle.durable.specs.Place.Place.{of_volume, of_blocks, of_file}
 use Rattle.durable.specs.Naming.{IsLowestBad, IsLowestObstacle, Names, NamesLine, NamesLineOf, NamesObstacle, refused_before}
-use Rattle.durable.specs.Durable.{HasEightLines, IsComplete}
+use Rattle.durable.specs.Durable.{HasEightLines, IsComplete, IsShown}
 
 -- a read is refused by its mode, its span, or what can't be read
 refused_by : (mode : Option Answer) (past : Option Why) (bad_meta : List ℕ) (unreadable : Option Answer)
@@ -148,6 +151,43 @@ names_line_of_file h next name offset len i said lost among heard =
     (refused_of_file (mode_refusal h.mode h.bad_meta (meaning (FRead name offset len)).needs) r.named r.places h.bad_meta r.unreadable
     ∙ ap (λ o. first_there (refused_before h (FRead name offset len)) (option_map (page_answer name) (poisoned_in_file o))) bad.2)
     (bad.0, bad.1, refl) heard
+
+-- what a load through a mapping that shows its file comes to
+pub load_comes : (h : Machine) (handle offset len : ℕ) (m : Mapping) → IsShown h handle m
+    → (meaning (Load handle offset len)).comes h ≡ (fread m.name (m.start + offset) len).comes h
+load_comes h handle offset len m shows =
+    ap (λ (o : Option Mapping). elim o [ None ↦ Gives Done h | Some n ↦ (load_through offset len n).comes h ]) shows.is
+    ∙ ap (λ b. (if b then fread m.name (m.start + offset) len else read_copy m offset len).comes h) shows.shared
+
+-- and why it is refused
+load_reasons : (h : Machine) (handle offset len : ℕ) (m : Mapping) → IsShown h handle m
+    → (meaning (Load handle offset len)).reasons h
+    ≡ record ((fread m.name (m.start + offset) len).reasons h) { named = None; places = option_map Refused (most_refusal 65536 m.len offset len) }
+load_reasons h handle offset len m shows =
+    ap (λ (o : Option Mapping). elim o [ None ↦ record no_reasons { named = Some (Refused because.Handle) } | Some n ↦ (load_through offset len n).reasons h ]) shows.is
+    ∙ ap (λ b. record ((if b then fread m.name (m.start + offset) len else read_copy m offset len).reasons h) { named = None; places = option_map Refused (most_refusal 65536 m.len offset len) }) shows.shared
+
+pub names_line_mapped : (h next : Machine) (handle offset len i : ℕ) (m : Mapping) (said : Transcript) → IsShown h handle m → byte_at_place h (of_file m.name i) ≡ None
+    → is_among (m.start + offset) len i ≡ true → Hears h (Asked (Load handle offset len)) said next
+    → Names (refused_before h (Load handle offset len)) (NamesLineOf m.name (pages_named m.name h.files) (m.start + offset) len) said.answers
+unfolding refusal
+names_line_mapped h next handle offset len i m said shows lost among heard =
+    let bad = lowest_bad pages (m.start + offset) len i among (lost_line (cell_of pages (i / 64)) (i % 64) lost) in
+    let refused : refusal h (Load handle offset len) ≡ first_there (refused_before h (Load handle offset len)) (Some (PoisonFile m.name (64 * bad.0))) =
+    subst (IsFirst (PoisonFile m.name (64 * bad.0))) (sym (load_reasons h handle offset len m shows))
+    (refused_of_file mode None (option_map Refused (most_refusal 65536 m.len offset len)) h.bad_meta (option_map (page_answer m.name) (poisoned_in_file (first_bad_line pages (m.start + offset) len)))
+    ∙ ap (λ o. first_there (first_there mode (first_there None (option_map Refused (most_refusal 65536 m.len offset len)))) (option_map (page_answer m.name) (poisoned_in_file o))) bad.2) in
+    named h (Load handle offset len) (refused_before h (Load handle offset len)) (NamesLineOf m.name pages (m.start + offset) len) (PoisonFile m.name (64 * bad.0)) said next refused
+    (bad.0, bad.1, refl) heard
+  where
+    pages : List Page
+    pages = pages_named m.name h.files
+
+    mode : Option Answer
+    mode = mode_refusal h.mode h.bad_meta Usable
+
+    IsFirst : Answer → Reasons → Type 0
+    IsFirst answer r = first_reason mode h.bad_meta r ≡ first_there (first_there mode (first_there r.named r.places)) (Some answer)
 
 -- the lowest of some blocks that can't be read
 lowest_obstacle : (blocks : List Block) (at count n : ℕ) → is_among at count n ≡ true → (obstacle_in n (nth blocks n) ≡ None → ⊥)

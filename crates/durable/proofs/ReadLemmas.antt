@@ -19,7 +19,7 @@ use Rattle.block_device.specs.Refusals.Refusal.{Unreadable}
 use Rattle.reply_text.specs.Answer.{Answer}
 use Rattle.reply_text.specs.Answer.Answer.{Bytes}
 use Rattle.script_text.specs.Action.{Action}
-use Rattle.script_text.specs.Action.Action.{BRead, FRead, VLoad}
+use Rattle.script_text.specs.Action.Action.{BRead, FRead, Load, VLoad}
 use Rattle.machine_model.specs.Machine.{Machine}
 use Rattle.machine_model.specs.Machine.Fate.{Works}
 use Rattle.machine_model.specs.Commands.{early_refusal, fate, meaning, refusal, unless_refused}
@@ -30,13 +30,13 @@ use Rattle.machine_model.specs.Run.{Takes, Transcript}
 use Rattle.durable.specs.Place.{Place, block_has, byte_at_place, line_has}
 use Rattle.durable.specs.Place.Place.{of_volume, of_blocks, of_file}
 use Rattle.durable.specs.Naming.{Names, NamesLine, NamesLineOf, NamesObstacle, refused_before}
-use Rattle.durable.specs.Durable.{Has, HasNothing, IsComplete, Reads}
+use Rattle.durable.specs.Durable.{Has, HasNothing, IsComplete, Reads, ReadsMapped, ReadsNamed}
 use Rattle.machine_model.specs.declared.mode.Mode.TheVariants.{On}
 use Rattle.machine_model.specs.declared.needs.Needs.TheVariants.{Usable}
 use Rattle.durable.proofs.LineLemmas.{HasOrLost}
 use Rattle.durable.proofs.RefusalLemmas.{is_on, refused_told, refuses_before}
 use Rattle.durable.proofs.RefusedAnswerLemmas.{Refuses, is_refused, refuses_early}
-use Rattle.durable.proofs.NamingLemmas.{names_line, names_line_of_file, names_obstacle}
+use Rattle.durable.proofs.NamingLemmas.{load_comes, names_line, names_line_mapped, names_line_of_file, names_obstacle}
 
 -- what a read shows
 line_shown : (o : Option Cell) (i byte : ℕ) → line_has o i ≡ Some byte → elim o [ None ↦ 0 | Some cell ↦ cell_byte cell i ] ≡ byte
@@ -93,10 +93,16 @@ reads_volume h i byte is = λ offset len bytes said next heard told among.
     ap (λ xs. slice_index xs (i - offset)) (read_bytes h (VLoad offset len) (look h.volume offset len) bytes said next refl heard told)
     ∙ byte_looked h.volume offset len i byte is among
 
-reads_file : (h : Machine) (name : List ℕ) (i byte : ℕ) → byte_at_place h (of_file name i) ≡ Some byte → Reads h (of_file name i) byte
-reads_file h name i byte is = λ offset len bytes said next heard told among.
+reads_named : (h : Machine) (name : List ℕ) (i byte : ℕ) → byte_at_place h (of_file name i) ≡ Some byte → ReadsNamed h name i byte
+reads_named h name i byte is = λ offset len bytes said next heard told among.
     ap (λ xs. slice_index xs (i - offset)) (read_bytes h (FRead name offset len) (look (pages_named name h.files) offset len) bytes said next refl heard told)
     ∙ byte_looked (pages_named name h.files) offset len i byte is among
+
+reads_mapped : (h : Machine) (name : List ℕ) (i byte : ℕ) → byte_at_place h (of_file name i) ≡ Some byte → ReadsMapped h name i byte
+reads_mapped h name i byte is = λ handle offset len m bytes said next shows same heard told among.
+    ap (λ xs. slice_index xs (i - (m.start + offset)))
+    (read_bytes h (Load handle offset len) (look (pages_named m.name h.files) (m.start + offset) len) bytes said next (load_comes h handle offset len m shows) heard told)
+    ∙ byte_looked (pages_named m.name h.files) (m.start + offset) len i byte (subst (λ text. byte_at_place h (of_file text i) ≡ Some byte) (sym same) is) among
 
 reads_blocks : (h : Machine) (i byte : ℕ) → byte_at_place h (of_blocks i) ≡ Some byte → Reads h (of_blocks i) byte
 unfolding look_blocks
@@ -114,7 +120,7 @@ reads_blocks h i byte is = λ block count bytes said next heard told among.
 reads : (h : Machine) (x : Place) (byte : ℕ) → byte_at_place h x ≡ Some byte → Reads h x byte
 reads h (of_volume i) byte is = reads_volume h i byte is
 reads h (of_blocks i) byte is = reads_blocks h i byte is
-reads h (of_file name i) byte is = reads_file h name i byte is
+reads h (of_file name i) byte is = (reads_named h name i byte is, reads_mapped h name i byte is)
 
 -- what names something gives no data
 no_data : (early : Option Answer) (this : Answer → Type 0) (answers : List Answer) (bytes : List ℕ) → Refuses early → ((answer : Answer) → this answer → answer ≡ Bytes bytes → ⊥)
@@ -134,9 +140,14 @@ reads_lost h (of_volume i) byte whole lost = λ offset len bytes said next heard
 reads_lost h (of_blocks i) byte whole lost = λ block count bytes said next heard told among.
     absurd (no_data (early_refusal h.mode h.bad_meta h.geometry (BRead block count)) (NamesObstacle h.blocks block count) said.answers bytes
     (refuses_early h.mode h.bad_meta h.geometry (BRead block count)) (λ answer names is. obstacle_told names.1 bytes (sym names.3 ∙ is)) (names_obstacle h next block count i said whole lost among heard) told)
-reads_lost h (of_file name i) byte whole lost = λ offset len bytes said next heard told among.
-    absurd (no_data (refused_before h (FRead name offset len)) (NamesLineOf name (pages_named name h.files) offset len) said.answers bytes
-    (refuses_before h (FRead name offset len)) (λ answer names is. cc (names.2, is)) (names_line_of_file h next name offset len i said lost among heard) told)
+reads_lost h (of_file name i) byte whole lost = (
+  λ offset len bytes said next heard told among. absurd (no_data (refused_before h (FRead name offset len)) (NamesLineOf name (pages_named name h.files) offset len) said.answers bytes
+      (refuses_before h (FRead name offset len)) (λ answer names is. cc (names.2, is)) (names_line_of_file h next name offset len i said lost among heard) told),
+  λ handle offset len m bytes said next shows same heard told among.
+      absurd (no_data (refused_before h (Load handle offset len)) (NamesLineOf m.name (pages_named m.name h.files) (m.start + offset) len) said.answers bytes
+      (refuses_before h (Load handle offset len)) (λ answer names is. cc (names.2, is))
+      (names_line_mapped h next handle offset len i m said shows (subst (λ text. byte_at_place h (of_file text i) ≡ None) (sym same) lost) among heard) told),
+)
 
 -- a command on the storage that was refused, since the machine is not on, gives no data
 no_data_off : (h : Machine) (action : Action) (bytes : List ℕ) (said : Transcript) (next : Machine) → (meaning action).needs ≡ Usable → h.mode ≢ On
@@ -154,8 +165,10 @@ reads_nothing h (of_volume i) byte nothing = λ offset len bytes said next heard
     absurd (no_data_off h (VLoad offset len) bytes said next refl nothing.mode heard told)
 reads_nothing h (of_blocks i) byte nothing = λ block count bytes said next heard told among.
     absurd (no_data_off h (BRead block count) bytes said next refl nothing.mode heard told)
-reads_nothing h (of_file name i) byte nothing = λ offset len bytes said next heard told among.
-    absurd (no_data_off h (FRead name offset len) bytes said next refl nothing.mode heard told)
+reads_nothing h (of_file name i) byte nothing = (
+  λ offset len bytes said next heard told among. absurd (no_data_off h (FRead name offset len) bytes said next refl nothing.mode heard told),
+  λ handle offset len m bytes said next shows same heard told among. absurd (no_data_off h (Load handle offset len) bytes said next refl nothing.mode heard told),
+)
 
 -- a byte that is there or lost, or nothing is there
 pub has : (harmed : Bool) (h : Machine) (x : Place) (v : Option ℕ) → IsComplete h → HasOrLost harmed (byte_at_place h x) v ⊎ HasNothing h → Has h x v

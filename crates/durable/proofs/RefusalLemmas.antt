@@ -248,6 +248,11 @@ pub is_off : (h : Machine) (action : Action) → (meaning action).needs ≡ Unpo
 unfolding refusal
 is_off h action needs none = unpowered_off h.mode h.bad_meta (sym (ap (mode_refusal h.mode h.bad_meta) needs) ∙ (first_none _ _ none).0)
 
+pub named_none : (h : Machine) (action : Action) → refusal h action ≡ None → ((meaning action).reasons h).named ≡ None
+unfolding refusal
+named_none h action none =
+    (first_none ((meaning action).reasons h).named _ (first_none (mode_refusal h.mode h.bad_meta (meaning action).needs) _ none).1).0
+
 pub places_none : (h : Machine) (action : Action) → refusal h action ≡ None → ((meaning action).reasons h).places ≡ None
 unfolding refusal
 places_none h action none =

@@ -24,7 +24,7 @@ use Rattle.machine_model.specs.Interrupted.{interrupted_answer}
 use Rattle.machine_model.specs.OnFileErrors.{marked_in}
 use Rattle.machine_model.specs.Restarting.{MayLeaveStorage}
 use Rattle.durable.specs.Place.{Place}
-use Rattle.durable.specs.Touching.{changes, is_made_durable, may_make_durable, poisons, weakens, wears_out}
+use Rattle.durable.specs.Touching.{changes, is_made_durable, poisons, weakens, wears_with}
 use Rattle.durable.specs.Files.{changes_files}
 use Rattle.durable.specs.Durable.{HasNothing, IsDone}
 use Rattle.durable.specs.Whole.{IsMount}
@@ -115,10 +115,10 @@ pub record CoversNothing (h : Machine) (action : Action) : Type 0 where
 
 -- nor does it change or harm anything
 pub record TouchesNothing (action : Action) : Type 0 where
-  pub change : (x : Place) → changes action x ≡ false
+  pub change : (mappings : List Mapping) (x : Place) → changes mappings action x ≡ false
   pub poison : (x : Place) → poisons action x ≡ false
   pub weaken : (x : Place) → weakens action x ≡ false
-  pub cover : (geo : Geometry) (x : Place) → wears_out (may_make_durable geo action) x ≡ false
+  pub cover : (geo : Geometry) (mappings : List Mapping) (x : Place) → wears_with geo mappings action x ≡ false
   pub files : changes_files action ≡ false
 
 pub data Step (h : Machine) (action : Action) (answer : Answer) (next : Machine) : Type 0 where

@@ -104,7 +104,7 @@ flush_suits h action look handle spans region stay blocks volume files needs = b
     by_mapping (Some m) is = by_kind m is (is_shared m.kind) refl
 
 pub suits : (h : Machine) (action : Action) → Suits h action ((meaning action).comes h)
-suits h (BRead block count) = (inr (record { change = nowhere; poison = nowhere; weaken = nowhere; cover = λ geo x. refl; files = refl }), works h h (BRead block count) refl refl refl refl refl refl refl)
+suits h (BRead block count) = (inr (record { change = λ mappings. nowhere; poison = nowhere; weaken = nowhere; cover = λ geo mappings x. refl; files = refl }), works h h (BRead block count) refl refl refl refl refl refl refl)
 suits h (BWrite block bytes) = (inl (inl refl), works h _ (BWrite block bytes) refl refl refl refl refl refl refl)
 suits h (BAtomic block bytes) = (inl (inl refl), works h _ (BAtomic block bytes) refl refl refl refl refl refl refl)
 suits h (BMulti ranges bytes) = (inl (inl refl), works h _ (BMulti ranges bytes) refl refl refl refl refl refl refl)
@@ -112,7 +112,7 @@ suits h (BDiscard block count) = (inl (inl refl), works h _ (BDiscard block coun
 suits h (BDiscardIf block count) = (inl (inl refl), works h _ (BDiscardIf block count) refl refl refl refl refl refl refl)
 suits h (BExists block) = inl (record { bytes = nowhere; files = refl }, same h)
 suits h (BScar ranges) = (inl (inl refl), works h _ (BScar ranges) refl refl refl refl refl refl refl)
-suits h (VLoad offset len) = (inr (record { change = nowhere; poison = nowhere; weaken = nowhere; cover = λ geo x. refl; files = refl }), works h h (VLoad offset len) refl refl refl refl refl refl refl)
+suits h (VLoad offset len) = (inr (record { change = λ mappings. nowhere; poison = nowhere; weaken = nowhere; cover = λ geo mappings x. refl; files = refl }), works h h (VLoad offset len) refl refl refl refl refl refl refl)
 suits h (VStore offset bytes) = (inl (inl refl), works h _ (VStore offset bytes) refl refl refl refl refl refl refl)
 suits h (VSync offset len) = (inl (inl refl), works h _ (VSync offset len) refl refl refl refl refl refl refl)
 suits h VRanges = inl (record { bytes = nowhere; files = refl }, same h)
@@ -125,7 +125,7 @@ suits h (Delete name) = (inl (inl refl), works h _ (Delete name) refl refl refl 
 suits h (Rename name to) = (inl (inl refl), works h _ (Rename name to) refl refl refl refl refl refl refl)
 suits h (Resize name pages) = (inl (inl refl), works h _ (Resize name pages) refl refl refl refl refl refl refl)
 suits h ListFiles = inl (record { bytes = nowhere; files = refl }, same h)
-suits h (FRead name offset len) = (inr (record { change = nowhere; poison = nowhere; weaken = nowhere; cover = λ geo x. refl; files = refl }), works h h (FRead name offset len) refl refl refl refl refl refl refl)
+suits h (FRead name offset len) = (inr (record { change = λ mappings. nowhere; poison = nowhere; weaken = nowhere; cover = λ geo mappings x. refl; files = refl }), works h h (FRead name offset len) refl refl refl refl refl refl refl)
 suits h (FWrite name offset bytes) = (inl (inl refl), works h _ (FWrite name offset bytes) refl refl refl refl refl refl refl)
 suits h (FAtomic name offset bytes) = (inl (inl refl), works h _ (FAtomic name offset bytes) refl refl refl refl refl refl refl)
 suits h (FMulti name ranges bytes) = (inl (inl refl), works h _ (FMulti name ranges bytes) refl refl refl refl refl refl refl)
@@ -137,7 +137,7 @@ suits h (Map name span kind) = by_kind (is_shared kind)
     to = with_mapping name span kind h
 
     touches : TouchesNothing (Map name span kind)
-    touches = record { change = nowhere; poison = nowhere; weaken = nowhere; cover = λ geo x. refl; files = refl }
+    touches = record { change = λ mappings. nowhere; poison = nowhere; weaken = nowhere; cover = λ geo mappings x. refl; files = refl }
 
     by_kind : (shared : Bool) → Suits h (Map name span kind) (if shared then Gives (Handle h.next_handle) to else Works (Handle h.next_handle) to)
     by_kind true = inr (inr touches, works h to (Map name span kind) refl refl refl refl refl refl refl)
@@ -146,7 +146,7 @@ suits h (Unmap handle) = inr (inl (inl refl), works h _ (Unmap handle) refl refl
 suits h (Load handle offset len) = by_mapping (mapping_of handle h.mappings) refl
   where
     touches : TouchesNothing (Load handle offset len)
-    touches = record { change = nowhere; poison = nowhere; weaken = nowhere; cover = λ geo x. refl; files = refl }
+    touches = record { change = λ mappings. nowhere; poison = nowhere; weaken = nowhere; cover = λ geo mappings x. refl; files = refl }
 
     none : CoversNothing h (Load handle offset len)
     none = record { bytes = nowhere; files = refl }

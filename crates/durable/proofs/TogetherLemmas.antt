@@ -31,7 +31,7 @@ use Rattle.durable.specs.Place.{byte_at_place, line_has}
 use Rattle.durable.specs.Place.Place.{of_file}
 use Rattle.durable.specs.Durable.{Does, Lasts}
 use Rattle.durable.specs.Whole.{MayShow, ShowsFiles}
-use Rattle.durable.proofs.FileKeepLemmas.{here_and}
+use Rattle.durable.proofs.FlushedFileLemmas.{here_and}
 use Rattle.durable.proofs.LawLemmas.{durable}
 use Rattle.durable.proofs.NamedPageLemmas.{named-own}
 use Rattle.durable.proofs.RefusalLemmas.{first_none, places_none}

@@ -10,7 +10,7 @@ use Rattle.nvm_model.specs.Cell.{Cell, KeepsCell}
 use Rattle.nvm_model.specs.Cell.Cell.{Bad, Kept}
 use Rattle.nvm_model.specs.Numbered.{list_from}
 use Rattle.nvm_model.specs.Page.{KeepsPages, Page, cell_of, presence_of, read_pages}
-use Rattle.nvm_model.specs.Storage.{File}
+use Rattle.nvm_model.specs.Storage.{Block, File}
 use Rattle.nvm_model.proofs.NumberedLemmas.{slice_get-list_from}
 use Rattle.nvm_model.proofs.PageLemmas.{cell_of-read_pages, presence_of-read_pages}
 use Rattle.reply_text.specs.Answer.{Answer}
@@ -19,7 +19,11 @@ use Rattle.script_text.specs.Action.{Action}
 use Rattle.script_text.specs.Action.Action.{Recover, Restart}
 use Rattle.script_text.specs.Script.{Input}
 use Rattle.script_text.specs.Script.Input.{Skipped, Malformed, Overlong, Asked}
-use Rattle.machine_model.specs.Commands.{MayLeaveFiles, meaning, refusal, unless_refused}
+use Rattle.block_device.specs.Images.{IsEither}
+use Rattle.block_device.specs.Reading.{blocks_read}
+use Rattle.word_tables.specs.Layout.{volume_line}
+use Rattle.word_tables.specs.declared.geometry.Geometry.{Geometry}
+use Rattle.machine_model.specs.Commands.{MayLeaveBlocks, MayLeaveFiles, MayLeaveVolume, meaning, refusal, unless_refused}
 use Rattle.std.specs.Prelude.{◌≢◌}
 use Rattle.machine_model.specs.declared.mode.Mode.TheVariants.{On}
 use Rattle.machine_model.specs.Machine.{Machine}
@@ -27,12 +31,12 @@ use Rattle.machine_model.specs.Machine.Fate.{Works}
 use Rattle.machine_model.specs.OnPages.{pages_named}
 use Rattle.machine_model.specs.Run.{Hears, Run, Takes, Transcript}
 use Rattle.durable.specs.Place.{byte_at_place, is_line_present, line_has}
-use Rattle.durable.specs.Place.Place.{of_file}
+use Rattle.durable.specs.Place.Place.{of_file, of_volume}
 use Rattle.durable.specs.Durable.{AllHaveLines, HaveLines, IsLineThere}
 use Rattle.durable.specs.Events.{AreMounted}
 use Rattle.durable.specs.Files.{BreaksOff, IsStopped}
-use Rattle.durable.specs.Whole.{BreaksOffFor, HasEither, IsMount, NoMountAsked, MayShow, ShowsEither, ShowsFiles, WholeWrite, command, files_written}
-use Rattle.durable.specs.Whole.WholeWrite.{atomic, together, discards}
+use Rattle.durable.specs.Whole.{BreaksOffFor, HasEither, Held, IsMount, MayShow, NoMountAsked, Shows, ShowsEither, ShowsFiles, ShowsVolume, WholeWrite, command, held_by, written}
+use Rattle.durable.specs.Whole.WholeWrite.{atomic, together, discards, clears, atomic_blocks, blocks_together, discards_blocks, scars, discards_volume, clears_volume}
 use Rattle.durable.proofs.FileLemmas.{done_or_stopped, not_stopped}
 use Rattle.durable.proofs.FileThereLemmas.{lines-files_left, lines-named}
 use Rattle.durable.proofs.NamedPageLemmas.{named-read}
@@ -42,18 +46,27 @@ use Rattle.durable.proofs.RefusedAnswerLemmas.{is_refused}
 use Rattle.durable.proofs.StepKinds.{Returns, Step}
 use Rattle.durable.proofs.StepKinds.Step.{idles, alters, stops, returns, remounts, empties}
 use Rattle.durable.proofs.StepLemmas.{mounts_anew, reads_back, step_of, stops_on}
-use Rattle.durable.proofs.ThereLemmas.{is_there}
+use Rattle.durable.proofs.ThereLemmas.{is_there, lines-left}
 
--- it is done by a change of the files alone
-works_on : (write : WholeWrite) (h : Machine) → (meaning (command write)).comes h ≡ Works Done (record h { files = files_written write h.files })
-works_on (atomic name offset bytes) h = refl
-works_on (together name ranges bytes) h = refl
-works_on (discards name page count) h = refl
+-- it is done by work on the device
+works_on : (write : WholeWrite) (h : Machine) → (to : Machine) × ((meaning (command write)).comes h ≡ Works Done to)
+works_on (atomic name offset bytes) h = (record h { files = (written (atomic name offset bytes) (held_by h)).files }, refl)
+works_on (together name ranges bytes) h = (record h { files = (written (together name ranges bytes) (held_by h)).files }, refl)
+works_on (discards name page count) h = (record h { files = (written (discards name page count) (held_by h)).files }, refl)
+works_on (clears name offset) h = (record h { files = (written (clears name offset) (held_by h)).files }, refl)
+works_on (atomic_blocks block bytes) h = (record h { blocks = (written (atomic_blocks block bytes) (held_by h)).blocks }, refl)
+works_on (blocks_together ranges bytes) h = (record h { blocks = (written (blocks_together ranges bytes) (held_by h)).blocks }, refl)
+works_on (discards_blocks block count) h = (record h { blocks = (written (discards_blocks block count) (held_by h)).blocks }, refl)
+works_on (scars ranges) h = (record h { blocks = (written (scars ranges) (held_by h)).blocks }, refl)
+works_on (discards_volume page count) h = (record h { volume = (written (discards_volume page count) (held_by h)).volume }, refl)
+works_on (clears_volume offset) h = (record h { volume = (written (clears_volume offset) (held_by h)).volume }, refl)
 
 -- it was begun, and stopped
 pub record IsBroken (h : Machine) (action : Action) (next : Machine) : Type 0 where
   pub none : refusal h action ≡ None
   mode : next.mode ≢ On
+  blocks : next.blocks ≡ h.blocks
+  volume : next.volume ≡ h.volume
   files : next.files ≡ h.files
   mappings : next.mappings ≡ h.mappings
   interrupted : next.interrupted ≡ Some action
@@ -66,10 +79,18 @@ broken write h next breaks = by_refusal (refusal h (command write)) refl breaks.
     by_refusal (Some answer) is took =
         absurd (both_ways (is_refused answer) (not_stopped answer (subst IsStopped (ap (λ s. s.answers) took.0) breaks.stopped)) (refused_told h (command write) answer is))
     by_refusal None is took =
-        let t = subst (λ f. Takes h (command write) f breaks.said next) (works_on write h) took in
+        let t = subst (λ f. Takes h (command write) f breaks.said next) (works_on write h).1 took in
         elim t.2 as (λ _. IsBroken h (command write) next) [
           | inl end ↦ absurd (done_or_stopped t.0 (subst IsStopped (ap (λ s. s.answers) t.1) breaks.stopped) (inl end.0))
-          | inr end ↦ record { none = is; mode = λ on. stops_on end.0 (sym (ap (λ m. m.mode) end.2.state) ∙ on); files = ap (λ m. m.files) end.2.state; mappings = ap (λ m. m.mappings) end.2.state; interrupted = ap (λ m. m.interrupted) end.2.state }
+          | inr end ↦ record {
+            none = is;
+            mode = λ on. stops_on end.0 (sym (ap (λ m. m.mode) end.2.state) ∙ on);
+            blocks = ap (λ m. m.blocks) end.2.state;
+            volume = ap (λ m. m.volume) end.2.state;
+            files = ap (λ m. m.files) end.2.state;
+            mappings = ap (λ m. m.mappings) end.2.state;
+            interrupted = ap (λ m. m.interrupted) end.2.state;
+          }
         ]
 
 -- and stays so while none asks for a mount
@@ -77,6 +98,8 @@ broken_step : (h m next : Machine) (action other : Action) (answer : Answer) →
 broken_step h m next action other answer waits at (idles why to) = record {
   none = at.none;
   mode = λ on. at.mode (to.mode on);
+  blocks = to.blocks ∙ at.blocks;
+  volume = to.volume ∙ at.volume;
   files = to.files ∙ at.files;
   mappings = to.mappings ∙ at.mappings;
   interrupted = to.interrupted ∙ at.interrupted;
@@ -102,17 +125,50 @@ broken_run (Asked other ∷ inputs) h m next action said waits at run =
 broken_for : (write : WholeWrite) (h next : Machine) → BreaksOffFor h (command write) next → IsBroken h (command write) next
 broken_for write h next breaks = broken_run breaks.inputs h breaks.at next (command write) breaks.said breaks.waits (broken write h breaks.at breaks.broke) breaks.run
 
--- so a mount finds the files old or new
-old_or_new : (write : WholeWrite) (h next : Machine) (left : List File) → IsBroken h (command write) next → MayLeaveFiles next.mappings next.interrupted next.files left
-    → (left ≡ h.files) ⊎ (left ≡ files_written write h.files)
-old_or_new write h next left at may =
-    by_write write (subst (λ o. MayLeaveFiles h.mappings o h.files left) at.interrupted
-    (subst (λ ms. MayLeaveFiles ms next.interrupted h.files left) at.mappings (subst (λ old. MayLeaveFiles next.mappings next.interrupted old left) at.files may)))
-  where
-    by_write : (w : WholeWrite) → MayLeaveFiles h.mappings (Some (command w)) h.files left → (left ≡ h.files) ⊎ (left ≡ files_written w h.files)
-    by_write (atomic name offset bytes) may = may
-    by_write (together name ranges bytes) may = may
-    by_write (discards name page count) may = may
+-- what is left is the same as this
+record IsLeft (held left : Held) : Type 0 where
+  blocks : left.blocks ≡ held.blocks
+  volume : left.volume ≡ held.volume
+  files : left.files ≡ held.files
+
+-- so a mount finds all old or all new
+module _ (h : Machine) (left : Held) where
+  left_blocks : (new : List Block) → IsEither h.blocks new left.blocks → left.volume ≡ h.volume → left.files ≡ h.files
+      → IsLeft (held_by h) left ⊎ IsLeft (record (held_by h) { blocks = new }) left
+  left_blocks new (inl old) volume files = inl (record { blocks = old; volume = volume; files = files })
+  left_blocks new (inr is) volume files = inr (record { blocks = is; volume = volume; files = files })
+
+  left_volume : (new : List Page) → left.blocks ≡ h.blocks → (left.volume ≡ h.volume) ⊎ (left.volume ≡ new) → left.files ≡ h.files
+      → IsLeft (held_by h) left ⊎ IsLeft (record (held_by h) { volume = new }) left
+  left_volume new blocks (inl old) files = inl (record { blocks = blocks; volume = old; files = files })
+  left_volume new blocks (inr is) files = inr (record { blocks = blocks; volume = is; files = files })
+
+  left_files : (new : List File) → left.blocks ≡ h.blocks → left.volume ≡ h.volume → (left.files ≡ h.files) ⊎ (left.files ≡ new)
+      → IsLeft (held_by h) left ⊎ IsLeft (record (held_by h) { files = new }) left
+  left_files new blocks volume (inl old) = inl (record { blocks = blocks; volume = volume; files = old })
+  left_files new blocks volume (inr is) = inr (record { blocks = blocks; volume = volume; files = is })
+
+  by_write : (geo : Geometry) (w : WholeWrite) → MayLeaveBlocks (Some (command w)) h.blocks left.blocks → MayLeaveVolume geo (Some (command w)) h.volume left.volume
+      → MayLeaveFiles h.mappings (Some (command w)) h.files left.files → IsLeft (held_by h) left ⊎ IsLeft (written w (held_by h)) left
+  by_write geo (atomic name offset bytes) blocks volume files = left_files (written (atomic name offset bytes) (held_by h)).files blocks volume files
+  by_write geo (together name ranges bytes) blocks volume files = left_files (written (together name ranges bytes) (held_by h)).files blocks volume files
+  by_write geo (discards name page count) blocks volume files = left_files (written (discards name page count) (held_by h)).files blocks volume files
+  by_write geo (clears name offset) blocks volume files = left_files (written (clears name offset) (held_by h)).files blocks volume files
+  by_write geo (atomic_blocks block bytes) blocks volume files = left_blocks (written (atomic_blocks block bytes) (held_by h)).blocks blocks volume files
+  by_write geo (blocks_together ranges bytes) blocks volume files = left_blocks (written (blocks_together ranges bytes) (held_by h)).blocks blocks volume files
+  by_write geo (discards_blocks block count) blocks volume files = left_blocks (written (discards_blocks block count) (held_by h)).blocks blocks volume files
+  by_write geo (scars ranges) blocks volume files = left_blocks (written (scars ranges) (held_by h)).blocks blocks volume files
+  by_write geo (discards_volume page count) blocks volume files = left_volume (written (discards_volume page count) (held_by h)).volume blocks volume files
+  by_write geo (clears_volume offset) blocks volume files = left_volume (written (clears_volume offset) (held_by h)).volume blocks volume files
+
+old_or_new : (write : WholeWrite) (h next : Machine) (left : Held) → IsBroken h (command write) next → MayLeaveBlocks next.interrupted next.blocks left.blocks
+    → MayLeaveVolume next.geometry next.interrupted next.volume left.volume → MayLeaveFiles next.mappings next.interrupted next.files left.files
+    → IsLeft (held_by h) left ⊎ IsLeft (written write (held_by h)) left
+old_or_new write h next left at blocks volume files =
+    by_write h left next.geometry write (subst (λ o. MayLeaveBlocks o h.blocks left.blocks) at.interrupted (subst (λ old. MayLeaveBlocks next.interrupted old left.blocks) at.blocks blocks))
+    (subst (λ o. MayLeaveVolume next.geometry o h.volume left.volume) at.interrupted (subst (λ old. MayLeaveVolume next.geometry next.interrupted old left.volume) at.volume volume))
+    (subst (λ o. MayLeaveFiles h.mappings o h.files left.files) at.interrupted
+    (subst (λ ms. MayLeaveFiles ms next.interrupted h.files left.files) at.mappings (subst (λ old. MayLeaveFiles next.mappings next.interrupted old left.files) at.files files)))
 
 -- a mount that was done was not refused
 mounted_allowed : (answer : Answer) → AreMounted (answer ∷ []) → is_refused answer ≡ false
@@ -130,8 +186,18 @@ recovered write h next later said breaks heard mounted = by_refusal (refusal nex
     by_refusal (Some answer) is took =
         absurd (both_ways (is_refused answer) (mounted_allowed answer (subst AreMounted (ap (λ s. s.answers) took.0) mounted)) (refused_told next Recover answer is))
     by_refusal None is took = elim took.2 as (λ _. HasEither write h later) [
-      | inl end ↦ elim (mounts_anew next later next.bad_meta refl end.1) as (λ _. HasEither write h later) [ inl back ↦ inl (old_or_new write h next later.files at back.files) | inr gone ↦ inr gone.nothing ]
-      | inr end ↦ inl (inl (ap (λ m. m.files) end.2.state ∙ at.files))
+      | inl end ↦ elim (mounts_anew next later next.bad_meta refl end.1) as (λ _. HasEither write h later) [
+        | inl back ↦ elim (old_or_new write h next (held_by later) at back.blocks back.volume back.files) as (λ _. HasEither write h later) [
+          | inl old ↦ inl (inl (record { blocks = old.blocks; volume = old.volume; files = old.files }))
+          | inr new ↦ inl (inr (record { blocks = new.blocks; volume = new.volume; files = new.files }))
+        ]
+        | inr gone ↦ inr gone.nothing
+      ]
+      | inr end ↦ inl (inl (record {
+        blocks = ap (λ m. m.blocks) end.2.state ∙ at.blocks;
+        volume = ap (λ m. m.volume) end.2.state ∙ at.volume;
+        files = ap (λ m. m.files) end.2.state ∙ at.files;
+      }))
     ]
 
 -- what a restart reads of pages
@@ -179,6 +245,16 @@ shows_files choice next later back same lines name i =
     subst (λ c. MayShow c (cell_of (pages_named name left) (i / 64)) (i % 64) (byte_at_place later (of_file name i))) same
     (subst (MayShow back.choice (cell_of (pages_named name left) (i / 64)) (i % 64)) (sym shown) (shows_read back.choice read.place back.image (pages_named name left) i whole read.keeps))
 
+shows_volume : (choice : Choice) (next later : Machine) (back : Returns next later) → back.choice ≡ choice → HaveLines next.volume → ShowsVolume choice back.may.left later
+shows_volume choice next later back same lines i =
+    let left : List Page = back.may.left in
+    let place : ℕ → ℕ = volume_line next.geometry in
+    let shown : byte_at_place later (of_volume i) ≡ line_has (cell_of (read_pages place back.image (presence_of left)) (i / 64)) (i % 64) =
+    ap (λ p. line_has (cell_of p (i / 64)) (i % 64)) (back.volume ∙ ap (read_pages place back.image) (sym back.may.there)) in
+    subst (λ c. MayShow c (cell_of left (i / 64)) (i % 64) (byte_at_place later (of_volume i))) same
+    (subst (MayShow back.choice (cell_of left (i / 64)) (i % 64)) (sym shown)
+    (shows_read back.choice place back.image left i (lines-left next.geometry next.interrupted next.volume left lines back.may.may) back.may.volume))
+
 pub restarted : (write : WholeWrite) (h next later : Machine) (choice : Choice) (said : Transcript) → BreaksOffFor h (command write) next → Hears next (Asked (Restart choice)) said later
     → AreMounted said.answers ⊎ IsStopped said.answers → ShowsEither choice write h later
 restarted write h next later choice said breaks heard mounted = by_refusal (refusal next (Restart choice)) refl heard
@@ -192,11 +268,21 @@ restarted write h next later choice said breaks heard mounted = by_refusal (refu
 
     by_back : (back : Returns next later) → back.choice ≡ choice → ShowsEither choice write h later
     by_back back same =
-        let shows = shows_files choice next later back same (subst AllHaveLines (sym at.files) breaks.broke.whole.file_lines) in
-        elim (old_or_new write h next back.may.files_left at back.may.may_files) as (λ _. ShowsEither choice write h later) [
-          | inl old ↦ inl (inl (subst (λ fs. ShowsFiles choice fs later) old shows))
-          | inr new ↦ inl (inr (subst (λ fs. ShowsFiles choice fs later) new shows))
+        elim (old_or_new write h next left at back.may.blocks back.may.may back.may.may_files) as (λ _. ShowsEither choice write h later) [
+          | inl old ↦ inl (inl (as_left (held_by h) old))
+          | inr new ↦ inl (inr (as_left (written write (held_by h)) new))
         ]
+      where
+        left : Held
+        left = record { blocks = blocks_read next.geometry back.image.is_bad back.image.word; volume = back.may.left; files = back.may.files_left }
+
+        as_left : (held : Held) → IsLeft held left → Shows choice held later
+        as_left held is = record {
+          blocks = back.blocks ∙ is.blocks;
+          volume = subst (λ pages. ShowsVolume choice pages later) is.volume
+              (shows_volume choice next later back same (subst HaveLines (sym at.volume) breaks.broke.whole.lines));
+          files = subst (λ files. ShowsFiles choice files later) is.files (shows_files choice next later back same (subst AllHaveLines (sym at.files) breaks.broke.whole.file_lines));
+        }
 
     by_refusal : (o : Option Answer) → refusal next (Restart choice) ≡ o → Takes next (Restart choice) (unless_refused next o ((meaning (Restart choice)).comes next)) said later
         → ShowsEither choice write h later

@@ -40,7 +40,7 @@ use Rattle.durable.specs.Place.{block_has, byte_at_place, is_line_present, is_we
 use Rattle.durable.specs.Place.Place.{of_volume, of_blocks}
 use Rattle.durable.specs.Region.{touched_lines_at}
 use Rattle.durable.specs.Touching.{is_made_durable}
-use Rattle.durable.specs.Durable.{Does, HaveLines, IsLineThere, Lasts, LastsPowered}
+use Rattle.durable.specs.Durable.{Does, HaveLines, IsComplete, IsLineThere, Lasts, LastsPowered}
 use Rattle.script_text.specs.Script.Input.{Asked}
 use Rattle.durable.proofs.PresenceLemmas.{has_lines, line_in, page_present, zero_at}
 use Rattle.durable.proofs.RefusalLemmas.{first_none, is_on, places_none, refused_told, unreadable_none}
@@ -80,7 +80,7 @@ bytes_within count block len none = by_test (nat_lt count (block + blocks_touche
         let more : len / 512 ≤ blocks_touched len = omega arith in omega arith
 
 -- a byte that was written
-written_byte : (block i : ℕ) (bytes : List ℕ) (blocks : List Block) → is_among block (length bytes / 512) (i / 512) ≡ true → block + length bytes / 512 ≤ length blocks
+pub written_byte : (block i : ℕ) (bytes : List ℕ) (blocks : List Block) → is_among block (length bytes / 512) (i / 512) ≡ true → block + length bytes / 512 ≤ length blocks
     → block_has (nth (write block bytes blocks) (i / 512)) (i % 512) ≡ Some (slice_index bytes (i - 512 * block))
 unfolding write
 written_byte block i bytes blocks among fits =
@@ -123,15 +123,20 @@ written h next block i bytes does among =
     ap (λ m. byte_at_place m (of_blocks i)) done.1 ∙ written_byte block i bytes h.blocks among (omega (arith, fits, (counted_on h does.whole (is_on h (BWrite block bytes) refl done.0)).blocks)) in
     subst (Lasts next (of_blocks i)) is (durable h next (BWrite block bytes) (of_blocks i) does (or_true _ among))
 
+-- blocks that are written as a whole are there
+pub atomic_within : (h : Machine) (block : ℕ) (bytes : List ℕ) → IsComplete h → refusal h (BAtomic block bytes) ≡ None → block + length bytes / 512 ≤ length h.blocks
+atomic_within h block bytes whole none =
+    let places = blocks_none _ (places_none h (BAtomic block bytes) none) in
+    let fits = bytes_within h.geometry.blocks block (length bytes)
+    (first_none (bytes_refusal h.geometry.blocks block (length bytes)) (where_ (nat_lt 64 (length bytes / 512)) Limit) places).0 in
+    omega (arith, fits, (counted_on h whole (is_on h (BAtomic block bytes) refl none)).blocks)
+
 pub written_together : (h next : Machine) (block i : ℕ) (bytes : List ℕ) → Does h (BAtomic block bytes) next → is_among block (length bytes / 512) (i / 512) ≡ true
     → Lasts next (of_blocks i) (Some (slice_index bytes (i - 512 * block)))
 written_together h next block i bytes does among =
     let done = works_done h (BAtomic block bytes) (record h { blocks = write block bytes h.blocks }) next refl does in
-    let places = blocks_none _ (places_none h (BAtomic block bytes) done.0) in
-    let fits = bytes_within h.geometry.blocks block (length bytes)
-    (first_none (bytes_refusal h.geometry.blocks block (length bytes)) (where_ (nat_lt 64 (length bytes / 512)) Limit) places).0 in
     let is : byte_at_place next (of_blocks i) ≡ Some (slice_index bytes (i - 512 * block)) =
-    ap (λ m. byte_at_place m (of_blocks i)) done.1 ∙ written_byte block i bytes h.blocks among (omega (arith, fits, (counted_on h does.whole (is_on h (BAtomic block bytes) refl done.0)).blocks)) in
+    ap (λ m. byte_at_place m (of_blocks i)) done.1 ∙ written_byte block i bytes h.blocks among (atomic_within h block bytes does.whole done.0) in
     subst (Lasts next (of_blocks i)) is (durable h next (BAtomic block bytes) (of_blocks i) does (or_true _ among))
 
 -- a byte that was stored in a line that takes it

@@ -1,11 +1,13 @@
 -- What was made durable stays.
-use Rattle.std.specs.Prelude.{◌≡◌, ◌≢◌, ◌⊎◌, ◌*◌, ◌-◌, ◌/◌, ◌<◌, ℕ, Bool, true, false, List, [], ◌∷◌, ◌++◌, length, slice_index, Option, None, Some, IfSome}
+use Rattle.std.specs.Prelude.{◌≡◌, ◌≢◌, ◌⊎◌, ◌&&◌, ◌||◌, ◌+◌, ◌*◌, ◌-◌, ◌/◌, ◌<◌, ℕ, Bool, true, false, List, [], ◌∷◌, ◌++◌, length, slice_index, Option, None, Some, IfSome}
+use Rattle.std.specs.List.{list_any}
 use Rattle.nvm_model.specs.Blocks.{nth}
 use Rattle.nvm_model.specs.Cell.{Cell}
 use Rattle.nvm_model.specs.Cell.Cell.{Bad, Kept}
+use Rattle.nvm_model.specs.Mappings.{is_shared, mapping_of}
 use Rattle.nvm_model.specs.Numbered.{is_among}
 use Rattle.nvm_model.specs.Page.{Page, cell_of}
-use Rattle.nvm_model.specs.Storage.{Block, File}
+use Rattle.nvm_model.specs.Storage.{Block, File, Mapping}
 use Rattle.nvm_model.specs.Storage.Block.{Absent, Scarred, Data}
 use Rattle.reply_text.specs.Answer.{Answer}
 use Rattle.reply_text.specs.Answer.Answer.{Done, Bytes, PowerLost, VerifyFile}
@@ -15,10 +17,12 @@ use Rattle.script_text.specs.Script.{Input}
 use Rattle.script_text.specs.Script.Input.{Skipped, Malformed, Overlong, Asked}
 use Rattle.machine_model.specs.declared.mode.Mode.TheVariants.{On, Stopped}
 use Rattle.machine_model.specs.Machine.{Machine}
-use Rattle.machine_model.specs.Run.{Transcript, Hears, Run}
+use Rattle.machine_model.specs.Run.{Transcript, Hears, Run, followed_by}
+use Rattle.word_tables.specs.declared.geometry.Geometry.{Geometry}
 use Rattle.durable.specs.Place.{Place, byte_at_place, is_line_present, is_weak_at}
 use Rattle.durable.specs.Place.Place.{of_volume, of_blocks, of_file}
-use Rattle.durable.specs.Touching.{changes, is_begun, is_made_durable, may_wear, poisons, weakens, wears}
+use Rattle.durable.specs.Touching.{changes, is_made_durable, poisons, weakens, wears, wears_with}
+use Rattle.durable.specs.Mapped.{Begun, commands_begun}
 
 -- a line of the volume is there: it is bad, or has its eight words
 abbrev pub IsLineThere : Option Cell → Type 0
@@ -130,23 +134,31 @@ BringBytes (Malformed ∷ inputs) = BringBytes inputs
 BringBytes (Overlong ∷ inputs) = BringBytes inputs
 BringBytes (Asked action ∷ inputs) = BringsBytes action × BringBytes inputs
 
--- no command of these that does so was begun, by what they were answered
-abbrev pub NoneBegun : (Action → Bool) → List Input → List Answer → Type 0
-NoneBegun does [] answers = Unit {0}
-NoneBegun does (Skipped ∷ inputs) answers = NoneBegun does inputs answers
-NoneBegun does (Malformed ∷ inputs) [] = Unit {0}
-NoneBegun does (Malformed ∷ inputs) (answer ∷ answers) = NoneBegun does inputs answers
-NoneBegun does (Overlong ∷ inputs) [] = Unit {0}
-NoneBegun does (Overlong ∷ inputs) (answer ∷ answers) = NoneBegun does inputs answers
-NoneBegun does (Asked action ∷ inputs) [] = Unit {0}
-NoneBegun does (Asked action ∷ inputs) (answer ∷ answers) =
-    (does action ≡ true → is_begun answer ≡ false) × NoneBegun does inputs answers
+-- no command of these does so
+abbrev pub NoneBegun : (Begun → Bool) → List Begun → Type 0
+NoneBegun does commands = list_any does commands ≡ false
 
--- none that does so to the place
-abbrev pub Spares : (Action → Place → Bool) → Place → List Input → List Answer → Type 0
-Spares does x inputs answers = NoneBegun (λ action. does action x) inputs answers
+-- none does so to the place, with the mappings that there were
+abbrev pub Spares : (List Mapping → Action → Place → Bool) → Place → List Begun → Type 0
+Spares does x commands = NoneBegun (λ (command : Begun). does command.mappings command.action x) commands
 
--- a read at the place that is answered with bytes has this one there
+-- the mapping has this handle, and shows its file
+pub record IsShown (h : Machine) (handle : ℕ) (m : Mapping) : Type 0 where
+  pub is : mapping_of handle h.mappings ≡ Some m
+  pub shared : is_shared m.kind ≡ true
+
+-- a read of a file by its name, and one through a mapping that shows it, that is answered with bytes has this one there
+abbrev pub ReadsNamed : Machine → List ℕ → ℕ → ℕ → Type 0
+ReadsNamed h name i byte = (offset len : ℕ) (bytes : List ℕ) (said : Transcript) (next : Machine)
+    → Hears h (Asked (FRead name offset len)) said next → said.answers ≡ Bytes bytes ∷ [] → is_among offset len i ≡ true
+    → slice_index bytes (i - offset) ≡ byte
+
+abbrev pub ReadsMapped : Machine → List ℕ → ℕ → ℕ → Type 0
+ReadsMapped h name i byte = (handle offset len : ℕ) (m : Mapping) (bytes : List ℕ) (said : Transcript) (next : Machine) → IsShown h handle m → m.name ≡ name
+    → Hears h (Asked (Load handle offset len)) said next → said.answers ≡ Bytes bytes ∷ [] → is_among (m.start + offset) len i ≡ true
+    → slice_index bytes (i - (m.start + offset)) ≡ byte
+
+-- so has a read at the place
 abbrev pub Reads : Machine → Place → ℕ → Type 0
 Reads h (of_volume i) byte = (offset len : ℕ) (bytes : List ℕ) (said : Transcript) (next : Machine)
     → Hears h (Asked (VLoad offset len)) said next → said.answers ≡ Bytes bytes ∷ [] → is_among offset len i ≡ true
@@ -154,9 +166,7 @@ Reads h (of_volume i) byte = (offset len : ℕ) (bytes : List ℕ) (said : Trans
 Reads h (of_blocks i) byte = (block count : ℕ) (bytes : List ℕ) (said : Transcript) (next : Machine)
     → Hears h (Asked (BRead block count)) said next → said.answers ≡ Bytes bytes ∷ [] → is_among block count (i / 512) ≡ true
     → slice_index bytes (i - 512 * block) ≡ byte
-Reads h (of_file name i) byte = (offset len : ℕ) (bytes : List ℕ) (said : Transcript) (next : Machine)
-    → Hears h (Asked (FRead name offset len)) said next → said.answers ≡ Bytes bytes ∷ [] → is_among offset len i ≡ true
-    → slice_index bytes (i - offset) ≡ byte
+Reads h (of_file name i) byte = ReadsNamed h name i byte × ReadsMapped h name i byte
 
 -- The place has this byte, or can't be read any more, or nothing is there; None is a byte that couldn't be read. What a read
 -- shows there is the byte.
@@ -164,22 +174,27 @@ pub record Has (h : Machine) (x : Place) (byte : Option ℕ) : Type 0 where
   pub kept : ((byte_at_place h x ≡ byte) ⊎ (byte_at_place h x ≡ None)) ⊎ HasNothing h
   pub shown : IfSome byte (Reads h x)
 
--- What these inputs, answered so, left of a byte that none of them changed: the place has it still, or was lost, or nothing is
--- there. It was not lost where none poisoned its line, and none made the line weak or none may have made it durable in place: which
--- file a later handle is of, the states between tell, so any flush may have.
-pub record Remains (inputs : List Input) (answers : List Answer) (later : Machine) (x : Place) (byte : Option ℕ) : Type 0 where
-  pub has : Spares changes x inputs answers → Has later x byte
-  pub unharmed : Spares changes x inputs answers → Spares poisons x inputs answers
-      → Spares weakens x inputs answers ⊎ Spares (may_wear later) x inputs answers → (byte_at_place later x ≡ byte) ⊎ HasNothing later
+-- one of these commands makes the place durable in place while its line is weak: before them it is so or not, and then from a
+-- command on that makes it weak
+abbrev pub is_worn : Geometry → Place → Bool → List Begun → Bool
+is_worn geo x weak [] = false
+is_worn geo x weak (one ∷ rest) = (weak && wears_with geo one.mappings one.action x) || is_worn geo x (weak || weakens one.action x) rest
+
+-- What these commands left of a byte that none of them changed, of a line that was not weak: the place has it still, or was lost, or
+-- nothing is there. It was lost only where one of them poisoned its line, or made it durable in place once another had made it weak.
+pub record Remains (commands : List Begun) (later : Machine) (x : Place) (byte : Option ℕ) : Type 0 where
+  pub has : Spares changes x commands → Has later x byte
+  pub unharmed : Spares changes x commands → Spares (λ mappings. poisons) x commands → is_worn later.geometry x false commands ≡ false
+      → (byte_at_place later x ≡ byte) ⊎ HasNothing later
 
 -- so it is in every later state of every run, whatever is cut, fails, and is restarted or recovered
 abbrev pub Lasts : Machine → Place → Option ℕ → Type 0
 Lasts h x byte = (inputs : List Input) (said : Transcript) (later : Machine) → BringBytes inputs → Run h inputs said later
-    → Remains inputs said.answers later x byte
+    → Remains (commands_begun h.mappings inputs said.answers) later x byte
 
 -- a command that makes the place durable keeps its byte: its line is not weak, where that is done in place, and else it is not changed
 abbrev pub KeepsByte : Machine → Action → Place → Type 0
-KeepsByte h action x = (wears h action x ≡ true → is_weak_at h x ≡ false) × (wears h action x ≡ false → changes action x ≡ false)
+KeepsByte h action x = (wears h action x ≡ true → is_weak_at h x ≡ false) × (wears h action x ≡ false → changes h.mappings action x ≡ false)
 
 -- no command was stopped by a loss of power
 abbrev pub LostNone : List Answer → Type 0
@@ -194,7 +209,7 @@ pub record StaysPowered (said : Transcript) : Type 0 where
 -- so it is in every run in which the power stays on, whatever fails and is recovered
 abbrev pub LastsPowered : Machine → Place → Option ℕ → Type 0
 LastsPowered h x byte = (inputs : List Input) (said : Transcript) (later : Machine) → BringBytes inputs → Run h inputs said later → StaysPowered said
-    → Remains inputs said.answers later x byte
+    → Remains (commands_begun h.mappings inputs said.answers) later x byte
 
 -- it has the byte that it has now
 abbrev pub IsDurable : Machine → Place → Type 0
@@ -222,6 +237,15 @@ pub record Finishes (h : Machine) (action : Action) (next : Machine) : Type 0 wh
   pub came : Hears h (Asked action) said next
   pub done : AreDone said.answers
 
+-- A run over some inputs and others, as it comes to the others.
+pub record Comes (h : Machine) (before after : List Input) (said : Transcript) (end : Machine) : Type 0 where
+  pub early : Transcript
+  pub here : Machine
+  pub run : Run h before early here
+  pub late : Transcript
+  pub rest : Run here after late end
+  pub whole : said ≡ followed_by early late
+
 -- A run over some inputs, a command and others, as it comes to the command.
 pub record Passes (h : Machine) (before : List Input) (action : Action) (after : List Input) (said : Transcript) (end : Machine) : Type 0 where
   pub early : Transcript
@@ -232,10 +256,12 @@ pub record Passes (h : Machine) (before : List Input) (action : Action) (after :
   pub came : Hears here (Asked action) middle next
   pub late : Transcript
   pub rest : Run next after late end
-  pub answers : said.answers ≡ early.answers ++ (middle.answers ++ late.answers)
+  pub whole : said ≡ followed_by early (followed_by middle late)
 
--- where the command made the place durable and was done, the rest left of its byte what it leaves of a durable one
+-- Where the command made the place durable and was done, what came then left of its byte, in each later state of the run, what it
+-- leaves of a durable one.
 pub record KeepsThrough (h : Machine) (before : List Input) (action : Action) (after : List Input) (said : Transcript) (end : Machine) (x : Place) : Type 0 where
   pub passes : Passes h before action after said end
-  pub keeps : is_made_durable passes.here action x ≡ true → AreDone passes.middle.answers
-      → Remains after passes.late.answers end x (byte_at_place passes.next x)
+  pub keeps : is_made_durable passes.here action x ≡ true → AreDone passes.middle.answers → (between rest : List Input) → after ≡ between ++ rest
+      → (later : Comes passes.next between rest passes.late end)
+      × Remains (commands_begun passes.next.mappings between later.early.answers) later.here x (byte_at_place passes.next x)

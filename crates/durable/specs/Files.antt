@@ -12,6 +12,7 @@ use Rattle.machine_model.specs.declared.mode.Mode.TheVariants.{On}
 use Rattle.machine_model.specs.Machine.{Machine}
 use Rattle.machine_model.specs.Commands.{meaning}
 use Rattle.machine_model.specs.Run.{Transcript, Hears, Run}
+use Rattle.durable.specs.Mapped.{Begun, commands_begun}
 use Rattle.durable.specs.Durable.{HasNothing, IsComplete, NoneBegun, Passes}
 
 -- a command that changes which files there are, or how many pages one has
@@ -84,7 +85,7 @@ LeavesFiles (Some action) = changes_files action ≡ false
 -- In every later state they are listed so, or nothing is there, whatever is cut, fails, and is restarted or recovered, where no
 -- change of them was begun.
 abbrev pub FilesLast : Machine → List FileEntry → Type 0
-FilesLast h listed = (inputs : List Input) (said : Transcript) (later : Machine) → Run h inputs said later → NoneBegun changes_files inputs said.answers
+FilesLast h listed = (inputs : List Input) (said : Transcript) (later : Machine) → Run h inputs said later → NoneBegun (λ (command : Begun). changes_files command.action) (commands_begun h.mappings inputs said.answers)
     → (files_listed later ≡ listed) ⊎ HasNothing later
 
 -- They are listed in one of two ways, or nothing is there. In mode On the list that is there lasts.
@@ -94,7 +95,7 @@ pub record AreEither (h : Machine) (old new : List FileEntry) : Type 0 where
 
 -- so it is in every later state, where no other change of them was begun
 abbrev pub FilesSettle : Machine → List FileEntry → List FileEntry → Type 0
-FilesSettle h old new = (inputs : List Input) (said : Transcript) (later : Machine) → Run h inputs said later → NoneBegun changes_files inputs said.answers
+FilesSettle h old new = (inputs : List Input) (said : Transcript) (later : Machine) → Run h inputs said later → NoneBegun (λ (command : Begun). changes_files command.action) (commands_begun h.mappings inputs said.answers)
     → AreEither later old new
 
 -- a command was stopped on the way, by a failure or a loss of power

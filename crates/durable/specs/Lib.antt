@@ -1,8 +1,11 @@
 pub mod Place
 pub mod Region
 pub mod Touching
+pub mod Mapped
 pub mod Naming
 pub mod Durable
 pub mod Files
 pub mod Events
 pub mod Whole
+pub mod MappedRows
+pub mod WornRows

@@ -1,5 +1,5 @@
 -- Parts of storage, byte by byte.
-use Rattle.std.specs.Prelude.{◌/◌, ◌==◌, ◌&&◌, ◌||◌, ℕ, Bool, true, false, List, Option, Some, None, if◌then◌else◌}
+use Rattle.std.specs.Prelude.{◌+◌, ◌/◌, ◌==◌, ◌&&◌, ◌||◌, ℕ, Bool, true, false, List, Option, Some, None, if◌then◌else◌}
 use Rattle.std.specs.List.{list_any}
 use Rattle.std.specs.Str.{bytes_eq}
 use Rattle.nvm_base.specs.declared.units.Span.{Span}
@@ -57,10 +57,6 @@ pages_bytes file page count = record nothing { files = λ name i. bytes_eq file 
 abbrev pub rewritten_bytes : List ℕ → List Span → Region
 rewritten_bytes file ranges = record nothing { files = λ name i. bytes_eq file name && touches_any_page ranges (i / 4096) }
 
--- all bytes of all files: which file a handle is of, the state alone tells
-abbrev pub all_files : Region
-all_files = record nothing { files = λ name i. true }
-
 -- all bytes of a line of the volume, of the blocks, or of the file of a name
 abbrev pub line_of_volume : ℕ → Region
 line_of_volume n = record nothing { volume = λ i. i / 64 == n }
@@ -92,6 +88,14 @@ flushed_by spans (Some m) = if is_shared m.kind then flushed_lines m.name (all_m
 -- and of the mapping that has a handle
 abbrev pub flushed_through : List Mapping → ℕ → List Span → Region
 flushed_through mappings handle spans = flushed_by spans (mapping_of handle mappings)
+
+-- the bytes of its file that a store through a mapping changes; none where it is a copy, or there is none
+abbrev pub stored_by : ℕ → ℕ → Option Mapping → Region
+stored_by offset len None = nothing
+stored_by offset len (Some m) = if is_shared m.kind then file_bytes m.name (m.start + offset) len else nothing
+
+abbrev pub stored_through : List Mapping → ℕ → ℕ → ℕ → Region
+stored_through mappings handle offset len = stored_by offset len (mapping_of handle mappings)
 
 abbrev pub holds : Region → Place → Bool
 holds region (of_volume i) = region.volume i

@@ -1,6 +1,5 @@
 -- Which bytes a command makes durable, which it changes, of which it makes the line bad or weak, and which it keeps from mounts.
-use Rattle.std.specs.Prelude.{◌+◌, ◌*◌, ◌/◌, ◌&&◌, ℕ, Bool, true, false, List, [], ◌∷◌, length}
-use Rattle.nvm_base.specs.declared.units.Span.{Span}
+use Rattle.std.specs.Prelude.{◌+◌, ◌*◌, ◌/◌, ◌&&◌, Bool, true, false, List, [], ◌∷◌, length}
 use Rattle.nvm_model.specs.Storage.{Mapping}
 use Rattle.block_device.specs.Refusals.{block_spans}
 use Rattle.file_actions.specs.Refusals.{all_bytes}
@@ -13,7 +12,7 @@ use Rattle.machine_model.specs.OnBlocks.{blocks_from}
 use Rattle.machine_model.specs.Machine.{Machine}
 use Rattle.word_tables.specs.declared.geometry.Geometry.{Geometry}
 use Rattle.durable.specs.Place.{Place}
-use Rattle.durable.specs.Region.{Region, discarded_pages, everything, all_files, file_bytes, flushed_lines, flushed_through, holds, line_of_blocks, line_of_file, line_of_volume, nothing, pages_bytes, ranges_bytes, rewritten_bytes, spanned, stored_bytes, touched_lines, touched_lines_at, two_files, whole_file}
+use Rattle.durable.specs.Region.{Region, discarded_pages, everything, file_bytes, flushed_lines, flushed_through, holds, line_of_blocks, line_of_file, line_of_volume, nothing, pages_bytes, ranges_bytes, rewritten_bytes, spanned, stored_bytes, stored_through, touched_lines, touched_lines_at, two_files, whole_file}
 
 -- The bytes that a command makes durable: in place, where a weak line is lost by that, or anew, in lines that are not weak.
 pub record Covered : Type 0 where
@@ -33,124 +32,117 @@ anew region = record { region = region; worn = false }
 abbrev pub wears_out : Covered → Place → Bool
 wears_out covered x = covered.worn && holds covered.region x
 
--- What is durable once a command is done on storage of these sizes: the blocks that it writes, the lines that it syncs, one that it
--- clears, those that it flushes through a handle, of which this region is told, and the pages that it writes as a whole.
-abbrev pub covered_by : (ℕ → List Span → Region) → Geometry → Action → Covered
-covered_by flushed geo (BRead block count) = uncovered
-covered_by flushed geo (BWrite block bytes) = in_place (spanned (blocks_from block (length bytes / 512)))
-covered_by flushed geo (BAtomic block bytes) = in_place (spanned (blocks_from block (length bytes / 512)))
-covered_by flushed geo (BMulti ranges bytes) = in_place (spanned (block_spans ranges))
-covered_by flushed geo (BDiscard block count) = uncovered
-covered_by flushed geo (BDiscardIf block count) = uncovered
-covered_by flushed geo (BExists block) = uncovered
-covered_by flushed geo (BScar ranges) = uncovered
-covered_by flushed geo (VLoad offset len) = uncovered
-covered_by flushed geo (VStore offset bytes) = uncovered
-covered_by flushed geo (VSync offset len) = in_place (touched_lines offset len)
-covered_by flushed geo VRanges = uncovered
-covered_by flushed geo (VPSync address len) = in_place (touched_lines_at (physical_offset geo address len) len)
-covered_by flushed geo (VDiscard page count) = uncovered
-covered_by flushed geo (VDiscardIf page count) = uncovered
-covered_by flushed geo (VExists page) = uncovered
-covered_by flushed geo (Create name pages) = uncovered
-covered_by flushed geo (Delete name) = uncovered
-covered_by flushed geo (Rename name to) = uncovered
-covered_by flushed geo (Resize name pages) = uncovered
-covered_by flushed geo ListFiles = uncovered
-covered_by flushed geo (FRead name offset len) = uncovered
-covered_by flushed geo (FWrite name offset bytes) = uncovered
-covered_by flushed geo (FAtomic name offset bytes) = anew (rewritten_bytes name (record { start = offset; len = length bytes } ∷ []))
-covered_by flushed geo (FMulti name ranges bytes) = anew (rewritten_bytes name ranges)
-covered_by flushed geo (FDiscard name page count) = uncovered
-covered_by flushed geo (FSync name) = in_place (flushed_lines name all_bytes)
-covered_by flushed geo (Map name span kind) = uncovered
-covered_by flushed geo (Unmap handle) = uncovered
-covered_by flushed geo (Load handle offset len) = uncovered
-covered_by flushed geo (Store handle offset bytes) = uncovered
-covered_by flushed geo (Sync handle offset len) = in_place (flushed handle (record { start = offset; len = len } ∷ []))
-covered_by flushed geo (Flush handle spans) = in_place (flushed handle spans)
-covered_by flushed geo (FlushVerify handle spans) = in_place (flushed handle spans)
-covered_by flushed geo (DeepFlush handle spans) = in_place (flushed handle spans)
-covered_by flushed geo NextEvent = uncovered
-covered_by flushed geo (CheckFile name offset len) = uncovered
-covered_by flushed geo (PoisonBlock block line) = uncovered
-covered_by flushed geo (PoisonVolume offset) = uncovered
-covered_by flushed geo (PoisonFile name offset) = uncovered
-covered_by flushed geo (PoisonMeta line) = uncovered
-covered_by flushed geo (WeakenFile name offset) = uncovered
-covered_by flushed geo (WeakenVolume offset) = uncovered
-covered_by flushed geo (ClearFile name offset) = in_place (line_of_file name (offset / 64))
-covered_by flushed geo (ClearVolume offset) = in_place (line_of_volume (offset / 64))
-covered_by flushed geo Cut = uncovered
-covered_by flushed geo (CutIn calls) = uncovered
-covered_by flushed geo (FailIn calls) = uncovered
-covered_by flushed geo (Restart choice) = uncovered
-covered_by flushed geo Recover = uncovered
-covered_by flushed geo (Attr name) = uncovered
-covered_by flushed geo (Evict lines) = uncovered
-
--- so where the mappings are these
+-- What is durable once a command is done on storage of these sizes, where the mappings are these: the blocks that it writes, the lines
+-- that it syncs, one that it clears, those that it flushes through a handle, and the pages that it writes as a whole.
 abbrev pub made_durable : Geometry → List Mapping → Action → Covered
-made_durable geo mappings action = covered_by (flushed_through mappings) geo action
+made_durable geo mappings (BRead block count) = uncovered
+made_durable geo mappings (BWrite block bytes) = in_place (spanned (blocks_from block (length bytes / 512)))
+made_durable geo mappings (BAtomic block bytes) = in_place (spanned (blocks_from block (length bytes / 512)))
+made_durable geo mappings (BMulti ranges bytes) = in_place (spanned (block_spans ranges))
+made_durable geo mappings (BDiscard block count) = uncovered
+made_durable geo mappings (BDiscardIf block count) = uncovered
+made_durable geo mappings (BExists block) = uncovered
+made_durable geo mappings (BScar ranges) = uncovered
+made_durable geo mappings (VLoad offset len) = uncovered
+made_durable geo mappings (VStore offset bytes) = uncovered
+made_durable geo mappings (VSync offset len) = in_place (touched_lines offset len)
+made_durable geo mappings VRanges = uncovered
+made_durable geo mappings (VPSync address len) = in_place (touched_lines_at (physical_offset geo address len) len)
+made_durable geo mappings (VDiscard page count) = uncovered
+made_durable geo mappings (VDiscardIf page count) = uncovered
+made_durable geo mappings (VExists page) = uncovered
+made_durable geo mappings (Create name pages) = uncovered
+made_durable geo mappings (Delete name) = uncovered
+made_durable geo mappings (Rename name to) = uncovered
+made_durable geo mappings (Resize name pages) = uncovered
+made_durable geo mappings ListFiles = uncovered
+made_durable geo mappings (FRead name offset len) = uncovered
+made_durable geo mappings (FWrite name offset bytes) = uncovered
+made_durable geo mappings (FAtomic name offset bytes) = anew (rewritten_bytes name (record { start = offset; len = length bytes } ∷ []))
+made_durable geo mappings (FMulti name ranges bytes) = anew (rewritten_bytes name ranges)
+made_durable geo mappings (FDiscard name page count) = uncovered
+made_durable geo mappings (FSync name) = in_place (flushed_lines name all_bytes)
+made_durable geo mappings (Map name span kind) = uncovered
+made_durable geo mappings (Unmap handle) = uncovered
+made_durable geo mappings (Load handle offset len) = uncovered
+made_durable geo mappings (Store handle offset bytes) = uncovered
+made_durable geo mappings (Sync handle offset len) = in_place (flushed_through mappings handle (record { start = offset; len = len } ∷ []))
+made_durable geo mappings (Flush handle spans) = in_place (flushed_through mappings handle spans)
+made_durable geo mappings (FlushVerify handle spans) = in_place (flushed_through mappings handle spans)
+made_durable geo mappings (DeepFlush handle spans) = in_place (flushed_through mappings handle spans)
+made_durable geo mappings NextEvent = uncovered
+made_durable geo mappings (CheckFile name offset len) = uncovered
+made_durable geo mappings (PoisonBlock block line) = uncovered
+made_durable geo mappings (PoisonVolume offset) = uncovered
+made_durable geo mappings (PoisonFile name offset) = uncovered
+made_durable geo mappings (PoisonMeta line) = uncovered
+made_durable geo mappings (WeakenFile name offset) = uncovered
+made_durable geo mappings (WeakenVolume offset) = uncovered
+made_durable geo mappings (ClearFile name offset) = in_place (line_of_file name (offset / 64))
+made_durable geo mappings (ClearVolume offset) = in_place (line_of_volume (offset / 64))
+made_durable geo mappings Cut = uncovered
+made_durable geo mappings (CutIn calls) = uncovered
+made_durable geo mappings (FailIn calls) = uncovered
+made_durable geo mappings (Restart choice) = uncovered
+made_durable geo mappings Recover = uncovered
+made_durable geo mappings (Attr name) = uncovered
+made_durable geo mappings (Evict lines) = uncovered
 
--- An upper bound where they are not known: a flush through any handle counts for all bytes of all files.
-abbrev pub may_make_durable : Geometry → Action → Covered
-may_make_durable geo action = covered_by (λ handle spans. all_files) geo action
-
--- what a command writes, discards, scars, stores or clears; and all of a file that it makes, renames, resizes or deletes
-abbrev pub region_changed : Action → Region
-region_changed (BRead block count) = nothing
-region_changed (BWrite block bytes) = spanned (blocks_from block (length bytes / 512))
-region_changed (BAtomic block bytes) = spanned (blocks_from block (length bytes / 512))
-region_changed (BMulti ranges bytes) = spanned (block_spans ranges)
-region_changed (BDiscard block count) = spanned (blocks_from block count)
-region_changed (BDiscardIf block count) = spanned (blocks_from block count)
-region_changed (BExists block) = nothing
-region_changed (BScar ranges) = spanned ranges
-region_changed (VLoad offset len) = nothing
-region_changed (VStore offset bytes) = stored_bytes offset (length bytes)
-region_changed (VSync offset len) = nothing
-region_changed VRanges = nothing
-region_changed (VPSync address len) = nothing
-region_changed (VDiscard page count) = discarded_pages page count
-region_changed (VDiscardIf page count) = discarded_pages page count
-region_changed (VExists page) = nothing
-region_changed (Create name pages) = whole_file name
-region_changed (Delete name) = whole_file name
-region_changed (Rename name to) = two_files name to
-region_changed (Resize name pages) = whole_file name
-region_changed ListFiles = nothing
-region_changed (FRead name offset len) = nothing
-region_changed (FWrite name offset bytes) = file_bytes name offset (length bytes)
-region_changed (FAtomic name offset bytes) = file_bytes name offset (length bytes)
-region_changed (FMulti name ranges bytes) = ranges_bytes name ranges
-region_changed (FDiscard name page count) = pages_bytes name page count
-region_changed (FSync name) = nothing
-region_changed (Map name span kind) = nothing
-region_changed (Unmap handle) = nothing
-region_changed (Load handle offset len) = nothing
-region_changed (Store handle offset bytes) = all_files
-region_changed (Sync handle offset len) = nothing
-region_changed (Flush handle spans) = nothing
-region_changed (FlushVerify handle spans) = nothing
-region_changed (DeepFlush handle spans) = nothing
-region_changed NextEvent = nothing
-region_changed (CheckFile name offset len) = nothing
-region_changed (PoisonBlock block line) = nothing
-region_changed (PoisonVolume offset) = nothing
-region_changed (PoisonFile name offset) = nothing
-region_changed (PoisonMeta line) = nothing
-region_changed (WeakenFile name offset) = nothing
-region_changed (WeakenVolume offset) = nothing
-region_changed (ClearFile name offset) = line_of_file name (offset / 64)
-region_changed (ClearVolume offset) = line_of_volume (offset / 64)
-region_changed Cut = nothing
-region_changed (CutIn calls) = nothing
-region_changed (FailIn calls) = nothing
-region_changed (Restart choice) = nothing
-region_changed Recover = nothing
-region_changed (Attr name) = nothing
-region_changed (Evict lines) = nothing
+-- What a command writes, discards, scars, stores or clears, where the mappings are these; and all of a file that it makes, renames,
+-- resizes or deletes.
+abbrev pub region_changed : List Mapping → Action → Region
+region_changed mappings (BRead block count) = nothing
+region_changed mappings (BWrite block bytes) = spanned (blocks_from block (length bytes / 512))
+region_changed mappings (BAtomic block bytes) = spanned (blocks_from block (length bytes / 512))
+region_changed mappings (BMulti ranges bytes) = spanned (block_spans ranges)
+region_changed mappings (BDiscard block count) = spanned (blocks_from block count)
+region_changed mappings (BDiscardIf block count) = spanned (blocks_from block count)
+region_changed mappings (BExists block) = nothing
+region_changed mappings (BScar ranges) = spanned ranges
+region_changed mappings (VLoad offset len) = nothing
+region_changed mappings (VStore offset bytes) = stored_bytes offset (length bytes)
+region_changed mappings (VSync offset len) = nothing
+region_changed mappings VRanges = nothing
+region_changed mappings (VPSync address len) = nothing
+region_changed mappings (VDiscard page count) = discarded_pages page count
+region_changed mappings (VDiscardIf page count) = discarded_pages page count
+region_changed mappings (VExists page) = nothing
+region_changed mappings (Create name pages) = whole_file name
+region_changed mappings (Delete name) = whole_file name
+region_changed mappings (Rename name to) = two_files name to
+region_changed mappings (Resize name pages) = whole_file name
+region_changed mappings ListFiles = nothing
+region_changed mappings (FRead name offset len) = nothing
+region_changed mappings (FWrite name offset bytes) = file_bytes name offset (length bytes)
+region_changed mappings (FAtomic name offset bytes) = file_bytes name offset (length bytes)
+region_changed mappings (FMulti name ranges bytes) = ranges_bytes name ranges
+region_changed mappings (FDiscard name page count) = pages_bytes name page count
+region_changed mappings (FSync name) = nothing
+region_changed mappings (Map name span kind) = nothing
+region_changed mappings (Unmap handle) = nothing
+region_changed mappings (Load handle offset len) = nothing
+region_changed mappings (Store handle offset bytes) = stored_through mappings handle offset (length bytes)
+region_changed mappings (Sync handle offset len) = nothing
+region_changed mappings (Flush handle spans) = nothing
+region_changed mappings (FlushVerify handle spans) = nothing
+region_changed mappings (DeepFlush handle spans) = nothing
+region_changed mappings NextEvent = nothing
+region_changed mappings (CheckFile name offset len) = nothing
+region_changed mappings (PoisonBlock block line) = nothing
+region_changed mappings (PoisonVolume offset) = nothing
+region_changed mappings (PoisonFile name offset) = nothing
+region_changed mappings (PoisonMeta line) = nothing
+region_changed mappings (WeakenFile name offset) = nothing
+region_changed mappings (WeakenVolume offset) = nothing
+region_changed mappings (ClearFile name offset) = line_of_file name (offset / 64)
+region_changed mappings (ClearVolume offset) = line_of_volume (offset / 64)
+region_changed mappings Cut = nothing
+region_changed mappings (CutIn calls) = nothing
+region_changed mappings (FailIn calls) = nothing
+region_changed mappings (Restart choice) = nothing
+region_changed mappings Recover = nothing
+region_changed mappings (Attr name) = nothing
+region_changed mappings (Evict lines) = nothing
 
 -- the line that a command makes bad at once, and the one that it makes weak, which a sync makes bad; and what no mount finds any
 -- more, as a line of metadata is bad
@@ -220,18 +212,15 @@ harm_done (Evict lines) = no_harm
 abbrev pub is_made_durable : Machine → Action → Place → Bool
 is_made_durable h action x = holds (made_durable h.geometry h.mappings action).region x
 
-abbrev pub may_be_made_durable : Machine → Action → Place → Bool
-may_be_made_durable h action x = holds (may_make_durable h.geometry action).region x
-
 -- and of which a weak line would be lost by that
+abbrev pub wears_with : Geometry → List Mapping → Action → Place → Bool
+wears_with geo mappings action x = wears_out (made_durable geo mappings action) x
+
 abbrev pub wears : Machine → Action → Place → Bool
-wears h action x = wears_out (made_durable h.geometry h.mappings action) x
+wears h action x = wears_with h.geometry h.mappings action x
 
-abbrev pub may_wear : Machine → Action → Place → Bool
-may_wear h action x = wears_out (may_make_durable h.geometry action) x
-
-abbrev pub changes : Action → Place → Bool
-changes action x = holds (region_changed action) x
+abbrev pub changes : List Mapping → Action → Place → Bool
+changes mappings action x = holds (region_changed mappings action) x
 
 abbrev pub poisons : Action → Place → Bool
 poisons action x = holds (harm_done action).poisoned x

@@ -2,21 +2,22 @@
 ghost use Rattle.std.specs.Prelude.{◌≡◌, ◌≢◌, ◌⊎◌, ◌+◌, ◌-◌, ◌*◌, ◌/◌, ℕ, true, false, List, [], ◌∷◌, ◌++◌, length, slice_index, Some, None};
 ghost use Rattle.word_tables.specs.declared.geometry.Geometry.{Geometry};
 ghost use Rattle.std.specs.List.{Contains};
-ghost use Rattle.durable.specs.Touching.{is_made_durable, may_be_made_durable, may_wear, unmounts, wears};
+ghost use Rattle.durable.specs.Touching.{is_made_durable, made_durable, unmounts, wears};
 ghost use Rattle.nvm_base.specs.declared.files.FileEntry.{FileEntry};
 ghost use Rattle.nvm_base.specs.declared.units.Span.{Span};
 ghost use Rattle.reply_text.specs.Answer.Answer.{Files, RefusedMeta, Stopped as StoppedMeta, VerifyFile};
 ghost use Rattle.nvm_model.specs.Cell.{covers, touches};
 ghost use Rattle.nvm_model.specs.Numbered.{is_among};
-ghost use Rattle.nvm_model.specs.Page.{cell_of, touches_absent};
-ghost use Rattle.nvm_model.specs.Storage.{File};
+ghost use Rattle.nvm_model.specs.Blocks.{write};
+ghost use Rattle.nvm_model.specs.Page.{Page, cell_of, discard, touches_absent};
+ghost use Rattle.nvm_model.specs.Storage.{File, Mapping};
 ghost use Rattle.range_sets.specs.Ranges.{total_of};
 ghost use Rattle.line_device.specs.Panel.{Image};
 ghost use Rattle.word_tables.specs.Layout.{volume_line};
 ghost use Rattle.pm_volume.specs.Presence.{presence_read};
 ghost use Rattle.pm_volume.specs.Refusals.{physical_offset};
 ghost use Rattle.script_text.specs.Action.{Action};
-ghost use Rattle.script_text.specs.Action.Action.{BRead, BWrite, BAtomic, VLoad, VStore, VSync, VPSync, FRead, FWrite, FAtomic, FMulti, FlushVerify, PoisonBlock, PoisonFile, PoisonVolume, ClearFile, ClearVolume, Cut, Recover, Restart, ListFiles, NextEvent};
+ghost use Rattle.script_text.specs.Action.Action.{BRead, BWrite, BAtomic, VLoad, VStore, VSync, VPSync, FRead, FWrite, FAtomic, FMulti, Load, Store, FlushVerify, PoisonBlock, PoisonFile, PoisonVolume, ClearFile, ClearVolume, Cut, Recover, Restart, ListFiles, NextEvent};
 ghost use Rattle.script_text.specs.Script.{Input, inputs};
 ghost use Rattle.script_text.specs.Script.Input.{Asked};
 ghost use Rattle.line_device.specs.declared.line.Choice.{Choice};
@@ -25,34 +26,33 @@ ghost use Rattle.machine_model.specs.declared.mode.Mode.TheVariants.{On, Stopped
 ghost use Rattle.machine_model.specs.declared.needs.Needs.TheVariants.{Usable};
 ghost use Rattle.machine_model.specs.Lines.{lowest};
 ghost use Rattle.machine_model.specs.Machine.{Machine};
+ghost use Rattle.machine_model.specs.OnFileActions.{discarded_in, written_together};
 ghost use Rattle.machine_model.specs.OnPages.{pages_named};
 ghost use Rattle.machine_model.specs.Restarting.{reading};
 ghost use Rattle.machine_model.specs.Commands.{early_refusal, meaning};
 ghost use Rattle.machine_model.specs.Run.{Hears, Transcript, Run};
+ghost use Rattle.durable.specs.Mapped.{AreWithin, but_for_copies, commands_begun, exchanges, mappings_after};
 ghost use Rattle.durable.specs.Place.{Place, byte_at_place, is_weak_at, is_weak_line};
 ghost use Rattle.durable.specs.Naming.{Names, NamesLine, NamesLineOf, NamesObstacle, refused_before};
 ghost use Rattle.durable.specs.Place.Place.{of_volume, of_blocks, of_file};
-ghost use Rattle.durable.specs.Durable.{BringBytes, BringsBytes, Does, Finishes, HasNothing, IsDurable, IsComplete, KeepsByte, KeepsThrough, Lasts, LastsPowered, Spares};
-ghost use Rattle.durable.specs.Whole.{BreaksOffFor, HasEither, ShowsEither, ShowsFiles, WholeWrite, command, files_written};
-ghost use Rattle.durable.specs.Whole.WholeWrite.{atomic, together, discards};
+ghost use Rattle.durable.specs.Durable.{BringBytes, BringsBytes, Does, Finishes, HasNothing, IsDurable, IsComplete, IsShown, KeepsByte, KeepsThrough, Lasts, LastsPowered, Spares};
+ghost use Rattle.durable.specs.Whole.{BreaksOffFor, HasEither, ShowsEither, ShowsFiles, ShowsVolume, WholeWrite, command};
 ghost use Rattle.durable.specs.Events.{AreMounted, FindsAnew, Mounts, NoneMounts, TellsInOrder, TellsLines, TellsOldest, all_told};
 ghost use Rattle.durable.specs.Files.{BreaksOff, FilesLast, FilesSettle, FilesThrough, IsStopped, LeavesFiles, changes_files, files_after, files_listed};
 
 /// A command that covers a byte of the blocks, the volume or a file was done, a flush also where it lost a line: in every later state,
 /// whatever is cut, fails, and is restarted or recovered, the byte is the same or its line is lost, until a command that changes it is
-/// begun; or nothing is there, since metadata is bad. It isn't lost where no command poisons its line, and none makes the line weak or
-/// none may sync it.
+/// begun; or nothing is there, since metadata is bad. It is lost only where a command poisons its line, or one that makes it durable in
+/// place is begun once another has made the line weak. A store or a flush through a handle is of the bytes that the handle is mapped to.
 pub fn what_was_made_durable_stays()
     ensures stays { (h next : Machine) (action : Action) (x : Place) → Finishes h action next → is_made_durable h action x ≡ true → IsDurable next x }
-    ensures bounded { (h : Machine) (action : Action) (x : Place) → is_made_durable h action x ≡ true → may_be_made_durable h action x ≡ true }
-    ensures bounded_in_place { (h : Machine) (action : Action) (x : Place) → wears h action x ≡ true → may_wear h action x ≡ true }
     ensures whole { (h end : Machine) (before after : List Input) (action : Action) (said : Transcript) (x : Place) → IsComplete h
         → BringBytes after → Run h (before ++ Asked action ∷ after) said end → KeepsThrough h before action after said end x }
     ensures scripts { (script : List ℕ) → BringBytes (inputs script) }
 {}
 
-/// The bytes that were written are the ones that last: those of a write of blocks, those of a store to the volume or in a file that
-/// is then made durable, but in a weak line that is made so in place, and the zeros of a line that is cleared; and at once those of a
+/// The bytes that were written are the ones that last: those of a write of blocks, those of a store to the volume, in a file or through
+/// a mapping of it that is then made durable, but in a weak line that is made so in place, and the zeros of a line that is cleared; and at once those of a
 /// write of ranges of a file as a whole, in weak lines too.
 pub fn what_was_written_lasts()
     ensures write { (h next : Machine) (block i : ℕ) (bytes : List ℕ) → Does h (BWrite block bytes) next
@@ -78,6 +78,10 @@ pub fn what_was_written_lasts()
         → BringsBytes action → Does h (FWrite name offset bytes) stored → Finishes stored action next
         → is_made_durable stored action (of_file name i) ≡ true → is_among offset (length bytes) i ≡ true → KeepsByte stored action (of_file name i)
         → Lasts next (of_file name i) (Some (slice_index bytes (i - offset))) }
+    ensures through_a_mapping { (h stored next : Machine) (handle offset i : ℕ) (bytes : List ℕ) (m : Mapping) (action : Action) → BringsBytes (Store handle offset bytes)
+        → BringsBytes action → IsShown h handle m → AreWithin h.mappings h.files → Does h (Store handle offset bytes) stored
+        → Finishes stored action next → is_made_durable stored action (of_file m.name i) ≡ true → is_among (m.start + offset) (length bytes) i ≡ true
+        → KeepsByte stored action (of_file m.name i) → Lasts next (of_file m.name i) (Some (slice_index bytes (i - (m.start + offset)))) }
     ensures cleared_in_file { (h next : Machine) (name : List ℕ) (offset i : ℕ) → Does h (ClearFile name offset) next → i / 64 ≡ offset / 64
         → Lasts next (of_file name i) (Some 0) }
     ensures in_one_range { (h next : Machine) (name : List ℕ) (offset i : ℕ) (bytes : List ℕ) → BringsBytes (FAtomic name offset bytes)
@@ -101,6 +105,10 @@ pub fn what_is_there_stays_while_powered()
         → Does h (FWrite name offset bytes) stored → is_among offset (length bytes) i ≡ true
         → is_weak_line (cell_of (pages_named name stored.files) (i / 64)) ≡ false
         → LastsPowered stored (of_file name i) (Some (slice_index bytes (i - offset))) }
+    ensures through_a_mapping { (h stored : Machine) (handle offset i : ℕ) (bytes : List ℕ) (m : Mapping) → BringsBytes (Store handle offset bytes)
+        → IsShown h handle m → AreWithin h.mappings h.files → Does h (Store handle offset bytes) stored → is_among (m.start + offset) (length bytes) i ≡ true
+        → is_weak_line (cell_of (pages_named m.name stored.files) (i / 64)) ≡ false
+        → LastsPowered stored (of_file m.name i) (Some (slice_index bytes (i - (m.start + offset)))) }
 {}
 
 /// A line that is poisoned is lost at once, and so is one that was weak when it was synced or flushed, though the answer is `ok`.
@@ -124,7 +132,7 @@ pub fn what_is_lost_stays_lost()
 {}
 
 /// A read over a lost byte gives no data. Unless its mode or its span refuses it, it names the lowest bad line of its span, in the
-/// volume or in a file, or the lowest block that is scarred or has a bad line.
+/// volume or in a file, also through a mapping that shows it, or the lowest block that is scarred or has a bad line.
 pub fn reads_name_what_is_lost()
     ensures volume { (h next : Machine) (offset len i : ℕ) (said : Transcript) → byte_at_place h (of_volume i) ≡ None
         → is_among offset len i ≡ true → Hears h (Asked (VLoad offset len)) said next
@@ -135,13 +143,16 @@ pub fn reads_name_what_is_lost()
     ensures in_file { (h next : Machine) (name : List ℕ) (offset len i : ℕ) (said : Transcript) → byte_at_place h (of_file name i) ≡ None
         → is_among offset len i ≡ true → Hears h (Asked (FRead name offset len)) said next
         → Names (refused_before h (FRead name offset len)) (NamesLineOf name (pages_named name h.files) offset len) said.answers }
+    ensures through_a_mapping { (h next : Machine) (handle offset len i : ℕ) (m : Mapping) (said : Transcript) → IsShown h handle m
+        → byte_at_place h (of_file m.name i) ≡ None → is_among (m.start + offset) len i ≡ true → Hears h (Asked (Load handle offset len)) said next
+        → Names (refused_before h (Load handle offset len)) (NamesLineOf m.name (pages_named m.name h.files) (m.start + offset) len) said.answers }
 {}
 
 /// A line of metadata goes bad only by a command that poisons one, and stays bad. Where a mount is stopped by one, nothing of the
 /// storage is there, then and in any later state, and a command on it is answered with the lowest one.
 pub fn what_bad_metadata_stops()
     ensures same { (h later : Machine) (x : Place) (inputs : List Input) (said : Transcript) → Run h inputs said later
-        → Spares unmounts x inputs said.answers → later.bad_meta ≡ h.bad_meta }
+        → Spares (λ mappings. unmounts) x (commands_begun h.mappings inputs said.answers) → later.bad_meta ≡ h.bad_meta }
     ensures stays { (h later : Machine) (line : ℕ) (inputs : List Input) (said : Transcript) → Run h inputs said later
         → Contains h.bad_meta line → Contains later.bad_meta line }
     ensures stopped { (h next : Machine) (action : Action) (line : ℕ) (said : Transcript) → Hears h (Asked action) said next
@@ -175,9 +186,10 @@ pub fn what_files_there_are_stays()
         → changes_files action ≡ true → Run h (before ++ Asked action ∷ after) said end → FilesThrough h before action after said end }
 {}
 
-/// An atomic write or a discard of pages of a file that was stopped is done as a whole or not at all. The next recovery
-/// leaves the files as before, or as they were to be, where it is done. So does the next restart, where each byte shows a value that its
-/// word had since it was last durable, the last one where that was asked for: what was written shows as it was written, and holes as zeros.
+/// An atomic write of blocks or of a file, a discard of blocks or pages, a scar or a clear that was stopped is done as a whole or not at
+/// all. The next recovery leaves the storage as before, or as it was to be, where it is done. So does the next restart, where each byte
+/// of a page shows a value that its word had since it was last durable, the last one where that was asked for: what was written shows
+/// as it was written, and what was discarded as zeros.
 pub fn a_stopped_write_is_whole_or_not()
     ensures recovered { (write : WholeWrite) (h next later : Machine) (said : Transcript) → BreaksOffFor h (command write) next
         → Hears next (Asked Recover) said later → AreMounted said.answers → HasEither write h later }
@@ -185,15 +197,21 @@ pub fn a_stopped_write_is_whole_or_not()
         → Hears next (Asked (Restart choice)) said later → AreMounted said.answers ⊎ IsStopped said.answers → ShowsEither choice write h later }
     ensures shown { (h next later : Machine) (name : List ℕ) (i : ℕ) (before after : List Span) (range : Span) (bytes : List ℕ) (choice : Choice)
         → BringsBytes (FMulti name (before ++ range ∷ after) bytes) → BreaksOff h (FMulti name (before ++ range ∷ after) bytes) next
-        → ShowsFiles choice (files_written (together name (before ++ range ∷ after) bytes) h.files) later → is_among range.start range.len i ≡ true
+        → ShowsFiles choice (written_together name (before ++ range ∷ after) bytes h.files) later → is_among range.start range.len i ≡ true
         → byte_at_place later (of_file name i) ≡ Some (slice_index bytes (total_of before + (i - range.start))) }
     ensures shown_alone { (h next later : Machine) (name : List ℕ) (offset i : ℕ) (bytes : List ℕ) (choice : Choice)
         → BringsBytes (FAtomic name offset bytes) → BreaksOff h (FAtomic name offset bytes) next
-        → ShowsFiles choice (files_written (atomic name offset bytes) h.files) later → is_among offset (length bytes) i ≡ true
+        → ShowsFiles choice (written_together name (record { start = offset; len = length bytes } ∷ []) bytes h.files) later → is_among offset (length bytes) i ≡ true
         → byte_at_place later (of_file name i) ≡ Some (slice_index bytes (i - offset)) }
     ensures shown_holes { (later : Machine) (name : List ℕ) (page count i : ℕ) (files : List File) (choice : Choice)
-        → ShowsFiles choice (files_written (discards name page count) files) later → is_among page count (i / 4096) ≡ true
+        → ShowsFiles choice (discarded_in name page count files) later → is_among page count (i / 4096) ≡ true
         → byte_at_place later (of_file name i) ≡ Some 0 }
+    ensures shown_blocks { (h next later : Machine) (block i : ℕ) (bytes : List ℕ) → BreaksOff h (BAtomic block bytes) next
+        → later.blocks ≡ write block bytes h.blocks → is_among block (length bytes / 512) (i / 512) ≡ true
+        → byte_at_place later (of_blocks i) ≡ Some (slice_index bytes (i - 512 * block)) }
+    ensures shown_discarded { (later : Machine) (page count i : ℕ) (pages : List Page) (choice : Choice)
+        → ShowsVolume choice (discard page count pages) later → is_among page count (i / 4096) ≡ true
+        → byte_at_place later (of_volume i) ≡ Some 0 }
 {}
 
 /// Media errors of files are told once, in the order in which they came, and are found again at a mount. While nothing is mounted again,
@@ -213,6 +231,17 @@ pub fn media_errors_are_told_once()
         → next.events ≡ h.events }
     ensures found { (h next : Machine) (action : Action) (said : Transcript) → Hears h (Asked action) said next → Mounts action said.answers
         → FindsAnew next }
+{}
+
+/// Which handle is of which file is told by the commands and their answers: the mappings of each later state are those, but for the
+/// bytes of copies. What a command makes durable is the same whatever copies have. Each mapping lies within its file.
+pub fn what_is_mapped_is_told()
+    ensures within { (h later : Machine) (inputs : List Input) (said : Transcript) → AreWithin h.mappings h.files → Run h inputs said later
+        → AreWithin later.mappings later.files }
+    ensures told { (h later : Machine) (inputs : List Input) (said : Transcript) → Run h inputs said later
+        → but_for_copies later.mappings ≡ but_for_copies (mappings_after h.mappings (exchanges inputs said.answers)) }
+    ensures blind { (geo : Geometry) (one other : List Mapping) (action : Action) → but_for_copies one ≡ but_for_copies other
+        → made_durable geo one action ≡ made_durable geo other action }
 {}
 
 /// A machine that is read from an image is in such a state, whatever is armed, and no run leaves them.

@@ -27,8 +27,9 @@ use Rattle.program_base.specs.Begins.{Begins}
 use Rattle.program_base.specs.Ending.{ending_text, line}
 use Rattle.program_base.specs.Opening.{opening}
 
--- The machine's run over these lines. What one of its commands made durable is there at its end, unless a later one changed it. So
--- are the files that one made, deleted, renamed or resized: as it made them, or as before where it was stopped on the way.
+-- The machine's run over these lines. What one of its commands made durable is there in each later state, unless one between
+-- changed it. So are the files that one made, deleted, renamed or resized: as it made them, or as before where it was stopped on the
+-- way.
 pub record IsRun (first : Machine) (p : Panel) (lines : List (List ℕ)) (said : Transcript) (end : Machine) : Type 0 where
   pub begin : Machine
   pub begins : Begins first p begin

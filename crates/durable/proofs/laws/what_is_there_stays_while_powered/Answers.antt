@@ -1,5 +1,5 @@
 use Rattle.durable.proofs.LawLemmas.{lasts_powered}
-use Rattle.durable.proofs.FileWrittenLemmas.{stored_in_powered}
+use Rattle.durable.proofs.FileWrittenLemmas.{mapped_powered, stored_in_powered}
 use Rattle.durable.proofs.WrittenLemmas.{stored_powered}
 use Rattle.durable.proofs.laws.what_is_there_stays_while_powered.Goals as goal
 
@@ -11,3 +11,6 @@ returns-clause-stored c = stored_powered
 
 pub returns-clause-in_file : goal.returns-clause-in_file
 returns-clause-in_file c = stored_in_powered
+
+pub returns-clause-through_a_mapping : goal.returns-clause-through_a_mapping
+returns-clause-through_a_mapping c = mapped_powered

@@ -1,4 +1,3 @@
-use Rattle.durable.proofs.CoverLemmas.{may_cover, may_wear_out}
 use Rattle.durable.proofs.LawLemmas.{finished_durable}
 use Rattle.durable.proofs.PassLemmas.{keeps_through}
 use Rattle.durable.proofs.ScriptLemmas.{bring-script}
@@ -6,12 +5,6 @@ use Rattle.durable.proofs.laws.what_was_made_durable_stays.Goals as goal
 
 pub returns-clause-stays : goal.returns-clause-stays
 returns-clause-stays c = finished_durable
-
-pub returns-clause-bounded : goal.returns-clause-bounded
-returns-clause-bounded c = may_cover
-
-pub returns-clause-bounded_in_place : goal.returns-clause-bounded_in_place
-returns-clause-bounded_in_place c = may_wear_out
 
 pub returns-clause-scripts : goal.returns-clause-scripts
 returns-clause-scripts c = bring-script

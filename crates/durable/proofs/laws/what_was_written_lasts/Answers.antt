@@ -1,4 +1,4 @@
-use Rattle.durable.proofs.FileWrittenLemmas.{cleared_in_file, flushed}
+use Rattle.durable.proofs.FileWrittenLemmas.{cleared_in_file, flushed, flushed_mapped}
 use Rattle.durable.proofs.TogetherLemmas.{in_one_range, in_ranges}
 use Rattle.durable.proofs.WrittenLemmas.{cleared, synced, synced_by_address, written, written_together}
 use Rattle.durable.proofs.laws.what_was_written_lasts.Goals as goal
@@ -29,3 +29,7 @@ returns-clause-in_one_range c = in_one_range
 
 pub returns-clause-in_ranges : goal.returns-clause-in_ranges
 returns-clause-in_ranges c = in_ranges
+
+pub returns-clause-through_a_mapping : goal.returns-clause-through_a_mapping
+returns-clause-through_a_mapping c = λ h stored next handle offset i bytes m action small brings shows lies stores does covered among keeps.
+    flushed_mapped h stored next handle offset i bytes m action small brings shows lies stores does covered among keeps
