@@ -2,6 +2,7 @@ pub mod Coming
 pub mod Starting
 pub mod Stopping
 pub mod Performing
+pub mod Choosing
 pub mod Finding
 pub mod Tabulating
 pub mod Files

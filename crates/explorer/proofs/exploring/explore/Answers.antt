@@ -6,6 +6,7 @@ use Rattle.cut_places.specs.Following.{Follows}
 use Rattle.cut_places.specs.Places.{cut_places}
 use Rattle.cut_places.proofs.WithinLemmas.{found_nowhere}
 use Rattle.explorer.proofs.FoundLemmas.{nothing_found}
+use Rattle.explorer.proofs.SoundLemmas.{begins_sound}
 use Rattle.explorer.proofs.exploring.explore.Goals as goal
 
 pub returns-then-not-may_be_replies-clause-found : goal.returns-then-not-may_be_replies-clause-found
@@ -17,4 +18,4 @@ returns-then-not-may_be_replies-clause-found g c = λ h look stands begins is.
 pub returns-clause-found : goal.returns-clause-found
 returns-clause-found g c = λ h look stands begins is.
     let follows = c.in_ok-watched.ensures.follows h stands begins in
-    c.in_ok-follow.ensures (armed h) look (subst (λ geo. Follows c.in_ok-watched.watched.sight geo (armed h)) (sym c.geometry-geometry.ensures) follows.0) follows.1 is
+    c.in_ok-follow.ensures (armed h) look (subst (λ geo. Follows c.in_ok-watched.watched.sight geo (armed h)) (sym c.geometry-geometry.ensures) follows.0) follows.1 (begins_sound h begins) is
