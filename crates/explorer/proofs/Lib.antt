@@ -4,6 +4,11 @@ pub mod BlockLookLemmas
 pub mod LookLemmas
 pub mod CauseLemmas
 pub mod UntoldLemmas
+pub mod ChoiceLemmas
+pub mod MarkLemmas
+pub mod FileMarkLemmas
+pub mod SoundLemmas
+pub mod KeptLemmas
 pub mod FoundLemmas
 pub mod LookingLemmas
 pub mod ResultLemmas

@@ -3,6 +3,7 @@ pub mod Starting
 pub mod Stopping
 pub mod Leading
 pub mod Performing
+pub mod Choosing
 pub mod Finding
 pub mod Tabulating
 pub mod Files

@@ -13,6 +13,7 @@ ghost use Rattle.cut_places.specs.AskedReads.Asking.{IsLook, may_be_replies};
 ghost use Rattle.cut_places.specs.AskedReads.Program.{IsBounded, inputs_of_lines};
 ghost use Rattle.cut_places.specs.Following.{AreDone, Follows, IsWhole, IsWithin};
 ghost use Rattle.cut_places.specs.Places.{cut_places, first_stop, found_stop};
+ghost use Rattle.value_tables.specs.Listed.{IsSound};
 ghost use Rattle.explorer.specs.Finding.{IsFound, IsOn, inside_at};
 ghost use Rattle.explorer.specs.Leading.{led_through};
 ghost use Rattle.explorer.specs.Starting.{Begins};
@@ -77,7 +78,7 @@ fn follow(
     requires whole { IsWhole watched.sight question.now }
     requires within { IsWithin watched.sight geometry }
     requires replies { may_be_replies geometry question.now ≡ true }
-    ensures { (h : Machine) (look : List Seen) → Follows watched.sight geometry h → AreDone h program.now watched.done.items → IsLook look question.now
+    ensures { (h : Machine) (look : List Seen) → Follows watched.sight geometry h → AreDone h program.now watched.done.items → IsSound h → IsLook look question.now
         → IfOk result (IsFound look (first_stop (may_show look) (cut_places 1 h (inputs_of_lines program.now)))) }
 {
     let Watched { mut sight, done } = watched;

@@ -46,7 +46,7 @@ line_is f [] line are is = absurd is
 line_is f (other ∷ lines) line are (inl same) = subst (λ (l : FileLine). l.line ≡ f l.number) (sym same) are.0
 line_is f (other ∷ lines) line are (inr later) = line_is f lines line are.1 later
 
-line_found : (f : ℕ → Cell) (lines : List FileLine) (n : ℕ) → AreLines f lines → is_held (line_numbers lines) n ≡ true → line_held n lines ≡ Some (f n)
+pub line_found : (f : ℕ → Cell) (lines : List FileLine) (n : ℕ) → AreLines f lines → is_held (line_numbers lines) n ≡ true → line_held n lines ≡ Some (f n)
 line_found f [] n are held = cc held
 line_found f (line ∷ lines) n are held = by_number (line.number == n) refl held (line_found f lines n are.1)
   where
@@ -217,6 +217,17 @@ module _ (all : List FileRead) (numbers : List ℕ) (files : List FileState) (fi
         let page : n / 64 < x.pages = omega (arith, all_within n among) in
         ap (line_there n) found ∙ ap (λ b. cond b (line_held n x.lines) None) (lt-ltb (n / 64) x.pages page) ∙ line_found f x.lines n has.2 (all_held n among)
 
+    -- a line that a read looks at is there, and all reads fit it
+    there_of : (r : FileRead) → IsAmong r all → r.name ≡ name → (n : ℕ) → IsAmong n (lines_of_read r.pages)
+        → (line_there n (file_of name_seen name files) ≡ Some (f n)) × (cell_fits rs n (f n) ≡ true)
+    there_of r is same n among =
+        let within : n < 64 * x.pages = ltb-true n (64 * x.pages) (all_of (λ m. nat_lt m (64 * x.pages)) n (lines_of_read r.pages) (lines_within x.pages r.pages (replied r is same)) among) in
+        let page : n / 64 < x.pages = omega (arith, within) in
+        let line = all_of (is_held (line_numbers x.lines)) n (lines_of_read r.pages) (lines_held r is same) among in (
+          ap (line_there n) found ∙ ap (λ b. cond b (line_held n x.lines) None) (lt-ltb (n / 64) x.pages page) ∙ line_found f x.lines n has.2 line,
+          all_of (λ m. cell_fits rs m (f m)) n (lines_of_read r.pages) (lines_fit r is same) among,
+        )
+
     told_reads : reads_of name both ≡ rs ++ map (told_as (λ n. n) rs f) ns
     told_reads =
         reads_of-append name all tale
@@ -281,6 +292,18 @@ module _ (all : List FileRead) (numbers : List ℕ) (files : List FileState) (fi
           list_all-map passes_both (one_told all files r.name) (lines_of_read r.pages)
           ∙ all_from (λ n. passes_both (one_told all files r.name n)) (lines_of_read r.pages)
           (λ n among. ap (read_passes (now_fits both r.name) (page_told all files r.name n)) found ∙ page_fits r.name x found r is refl n among)
+
+  -- each line that a read looks at is there, and all reads of its file fit it
+  pub line_left_there : (r : FileRead) → IsAmong r all → (n : ℕ) → IsAmong n (lines_of_read r.pages)
+      → (c : Cell) × (line_there n (file_of name_seen r.name files) ≡ Some c) × (cell_fits (reads_of r.name all) n c ≡ true)
+  line_left_there r is n among = by_file (file_of name_seen r.name files) refl
+    where
+      by_file : (o : Option FileState) → file_of name_seen r.name files ≡ o
+          → (c : Cell) × (line_there n (file_of name_seen r.name files) ≡ Some c) × (cell_fits (reads_of r.name all) n c ≡ true)
+      by_file None none =
+          absurd (subst (IsAmong n) (none_looked r.pages.start r.pages.len r.pages.reply
+          (sym (ap (read_passes (now_fits all r.name) r.pages) none) ∙ all_of (λ (q : FileRead). read_passes (now_fits all q.name) q.pages (file_of name_seen q.name files)) r all fit is)) among)
+      by_file (Some x) found = let both_ways = there_of r.name x found r is refl n among in ((have r.name x found).0 n, both_ways.0, both_ways.1)
 
   -- all of them fit
   pub both_fit : reads_pass (now_fits both) both files ≡ true

@@ -66,7 +66,7 @@ module _ (h : Machine) (look : List Seen) (q : Question) (inside : Option Action
   abbrev pub block : BlockSeen → Look
   block s = (block_left h.geometry inside (blocks_of q) now.blocks.items s).block
 
-  lines_fit : (s : LineSeen) → IsAmong s lines → cell_fits (volume_asked q) s.number (cell s) ≡ true
+  pub lines_fit : (s : LineSeen) → IsAmong s lines → cell_fits (volume_asked q) s.number (cell s) ≡ true
   lines_fit s among =
       ap (λ n. cell_fits (volume_asked q) n (cell s)) (sym (line_number geo inside (stays (option_and_then lines_way inside) (line_may_fit q) (λ (t : LineSeen). t.number / 64) lines s) s))
       ∙ left_fits (line_may_fit q) (line_made geo inside) (λ (t : LineSeen). t.number / 64) lines (option_and_then lines_way inside) (all_parts geo inside q now shown).0 s among

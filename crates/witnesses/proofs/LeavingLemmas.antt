@@ -5,7 +5,8 @@ use Rattle.std.proofs.lemmas.Bool.{eqb-true, or_left, or_right}
 use Rattle.cut_places.specs.SightsSeen.declared.way.Way.{Way}
 use Rattle.cut_places.specs.SightsSeen.declared.way.Way.TheVariants.{Each, Together, ByPage}
 use Rattle.cut_places.specs.SightsSeen.Ways.{passes_inside}
-use Rattle.witnesses.specs.Leaving.{stays, unit_left}
+use Rattle.script_text.specs.Action.{Action}
+use Rattle.witnesses.specs.Leaving.{made_by, mixing, stays, unit_left}
 use Rattle.witnesses.proofs.ListLemmas.{IsAmong, all_from, all_of}
 
 -- a unit among those of its own page passes
@@ -74,3 +75,9 @@ module _ {A : Type 0} (now : A → Bool) (made : A → A) (page : A → ℕ) (un
   stays_same (Some Each) u v fits pages = fits
   stays_same (Some Together) u v fits pages = refl
   stays_same (Some ByPage) u v fits pages = ap (λ k. list_all (λ w. not (page w == k) || now w) units) pages
+
+-- where no unit is mixed, each is left as it is
+pub left_mixed : {A : Type 0} (way : Option Way) (inside : Option Action) (now : A → Bool) (done : Action → A → A) (page : A → ℕ) (units : List A) (u : A)
+    → cond (stays way now page units u) u (made_by done (mixing way inside) u) ≡ unit_left way now (made_by done inside) page units u
+left_mixed None inside now done page units u = refl
+left_mixed (Some way) inside now done page units u = refl

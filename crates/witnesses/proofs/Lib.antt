@@ -10,5 +10,6 @@ pub mod AskedLemmas
 pub mod UnitLemmas
 pub mod FilesToldLemmas
 pub mod FilesLemmas
+pub mod SidesLemmas
 pub mod KeepLemmas
 pub mod TextLemmas

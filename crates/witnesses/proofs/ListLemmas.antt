@@ -27,6 +27,16 @@ pub all_from : {A : Type 0} (f : A → Bool) (xs : List A) → ((x : A) → IsAm
 all_from f [] each = refl
 all_from f (x ∷ xs) each = and_from (f x) (list_all f xs) (each x (inl refl)) (all_from f xs (λ y is. each y (inr is)))
 
+-- what is one of the first of a list, or of the last, is one of all
+pub among_first : {A : Type 0} (x : A) (xs ys : List A) → IsAmong x xs → IsAmong x (xs ++ ys)
+among_first x [] ys is = absurd is
+among_first x (y ∷ xs) ys (inl same) = inl same
+among_first x (y ∷ xs) ys (inr later) = inr (among_first x xs ys later)
+
+pub among_last : {A : Type 0} (x : A) (xs ys : List A) → IsAmong x ys → IsAmong x (xs ++ ys)
+among_last x [] ys is = is
+among_last x (y ∷ xs) ys is = inr (among_last x xs ys is)
+
 -- each of them is among those that they become
 pub among_map : {A B : Type 0} (f : A → B) (x : A) (xs : List A) → IsAmong x xs → IsAmong (f x) (map f xs)
 among_map f x [] is = absurd is

@@ -9,11 +9,15 @@ use Rattle.cut_places.specs.SightsSeen.declared.block_seen.BlockSeen.{BlockSeen}
 use Rattle.cut_places.specs.SightsSeen.Units.{block_once_done}
 use Rattle.cut_places.specs.SightsSeen.Ways.{blocks_way}
 use Rattle.witnesses.specs.declared.block_kept.BlockKept.{BlockKept}
-use Rattle.witnesses.specs.Leaving.{made_by, unit_left}
+use Rattle.witnesses.specs.Leaving.{made_by, mixing, unit_left}
 
 -- a block as the command makes it, if there is one
 abbrev pub block_made : Geometry → Option Action → BlockSeen → BlockSeen
 block_made geo inside seen = made_by (block_once_done geo) inside seen
+
+-- and as a cut inside it may leave the block beside that
+abbrev pub block_mixed : Geometry → Option Action → BlockSeen → BlockSeen
+block_mixed geo inside seen = block_made geo (mixing (option_and_then blocks_way inside) inside) seen
 
 -- a block as it is left
 abbrev pub block_left : Geometry → Option Action → List BlockRead → List BlockSeen → BlockSeen → BlockSeen
@@ -26,7 +30,7 @@ kept_block now made left = record { number = now.number; block = left.block; fre
 
 -- and of each
 abbrev pub block_kept : Geometry → Option Action → List BlockRead → List BlockSeen → BlockSeen → BlockKept
-block_kept geo inside reads units seen = kept_block seen (block_made geo inside seen) (block_left geo inside reads units seen)
+block_kept geo inside reads units seen = kept_block seen (block_mixed geo inside seen) (block_left geo inside reads units seen)
 
 -- the numbers of those that are kept
 abbrev pub numbers_of_blocks : List BlockKept → List ℕ

@@ -1,19 +1,22 @@
 -- What is kept of the lines of files.
-use Rattle.std.specs.Prelude.{◌/◌, ℕ, List, flat_map, map, nat_lt, replicate, Option, Some, None, option_map, if◌then◌else◌}
+use Rattle.std.specs.Prelude.{◌/◌, ℕ, List, flat_map, map, nat_lt, replicate, Option, Some, None, option_and_then, option_map, if◌then◌else◌}
 use Rattle.nvm_model.specs.Cell.{Cell}
 use Rattle.nvm_model.specs.Listing.{file_of}
 use Rattle.script_text.specs.Action.{Action}
 use Rattle.cut_places.specs.Outcomes.Files.{FileRead, reads_of}
 use Rattle.cut_places.specs.Outcomes.Pages.{PageRead, lines_read}
+use Rattle.cut_places.specs.FileChanges.{left_by}
 use Rattle.cut_places.specs.FileCommands.{files_change}
 use Rattle.cut_places.specs.FileLines.{line_held}
 use Rattle.cut_places.specs.FileLeaving.{files_left}
+use Rattle.cut_places.specs.FileMixing.{way_left}
 use Rattle.cut_places.specs.FilesState.{FileState, FilesState, name_seen}
 use Rattle.cut_places.specs.Sights.{files_once_done}
+use Rattle.cut_places.specs.SightsSeen.declared.way.Way.{Way}
 use Rattle.witnesses.specs.declared.file_kept.FileLineKept.{FileLineKept}
 use Rattle.witnesses.specs.declared.line_kept.LineLeft.{LineLeft}
 use Rattle.witnesses.specs.declared.line_kept.LineLeft.TheVariants as left
-use Rattle.witnesses.specs.Leaving.{made_by}
+use Rattle.witnesses.specs.Leaving.{made_by, mixing}
 use Rattle.witnesses.specs.Lines.{free_words, left_of}
 
 -- line n of a file, if there is one
@@ -26,9 +29,13 @@ abbrev pub left_at : List PageRead → ℕ → Option Cell → LineLeft
 left_at reads n None = left.Words (replicate 8 0)
 left_at reads n (Some cell) = left_of reads n cell
 
--- the files once the command is done, if there is one, and as the cut leaves them
+-- how a cut inside a command mixes files
+abbrev pub files_way : FilesState → Action → Option Way
+files_way s action = way_left (left_by (files_change s.mappings.mappings action))
+
+-- the files once the command is done, where a cut inside it may leave such; and as the cut leaves them
 abbrev pub files_made : Option Action → FilesState → FilesState
-files_made inside s = made_by files_once_done inside s
+files_made inside s = made_by files_once_done (mixing (option_and_then (files_way s) inside) inside) s
 
 abbrev pub left_there : Option Action → List FileRead → FilesState → FilesState
 left_there inside reads s = files_left (option_map (files_change s.mappings.mappings) inside) reads s

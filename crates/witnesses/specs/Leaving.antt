@@ -17,6 +17,11 @@ abbrev pub made_by : {A : Type 0} → (Action → A → A) → Option Action →
 made_by done None u = u
 made_by done (Some action) u = done action u
 
+-- the command, where a cut inside it may leave some units as it makes them
+abbrev pub mixing : Option Way → Option Action → Option Action
+mixing None inside = None
+mixing (Some way) inside = inside
+
 -- a unit as it is left
 abbrev pub unit_left : {A : Type 0} → Option Way → (A → Bool) → (A → A) → (A → ℕ) → List A → A → A
 unit_left way now made page units u = if stays way now page units u then u else made u

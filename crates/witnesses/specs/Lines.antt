@@ -14,7 +14,7 @@ use Rattle.cut_places.specs.SightsSeen.Ways.{lines_way}
 use Rattle.witnesses.specs.declared.line_kept.LineLeft.{LineLeft}
 use Rattle.witnesses.specs.declared.line_kept.LineLeft.TheVariants as left
 use Rattle.witnesses.specs.declared.line_kept.LineKept.{LineKept}
-use Rattle.witnesses.specs.Leaving.{made_by, unit_left}
+use Rattle.witnesses.specs.Leaving.{made_by, mixing, unit_left}
 
 -- the first of these values of word p on which all reads agree, 0 where there is none
 abbrev pub first_agreed : List PageRead → ℕ → List ℕ → ℕ
@@ -55,6 +55,10 @@ free_words now made left = list_from (λ w. could_differ now w left || could_dif
 abbrev pub line_made : Geometry → Option Action → LineSeen → LineSeen
 line_made geo inside seen = made_by (line_once_done geo) inside seen
 
+-- and as a cut inside it may leave the line beside that
+abbrev pub line_mixed : Geometry → Option Action → LineSeen → LineSeen
+line_mixed geo inside seen = line_made geo (mixing (option_and_then lines_way inside) inside) seen
+
 -- a line as it is left
 abbrev pub line_left : Geometry → Option Action → List PageRead → List LineSeen → LineSeen → LineSeen
 line_left geo inside reads lines seen =
@@ -68,7 +72,7 @@ kept_line reads now made left =
 
 -- and of each
 abbrev pub line_kept : Geometry → Option Action → List PageRead → List LineSeen → LineSeen → LineKept
-line_kept geo inside reads lines seen = kept_line reads seen (line_made geo inside seen) (line_left geo inside reads lines seen)
+line_kept geo inside reads lines seen = kept_line reads seen (line_mixed geo inside seen) (line_left geo inside reads lines seen)
 
 -- the numbers of those that are kept
 abbrev pub numbers_of_lines : List LineKept → List ℕ

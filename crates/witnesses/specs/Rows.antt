@@ -5,7 +5,7 @@ use Rattle.nvm_model.specs.Cell.{Cell}
 use Rattle.nvm_model.specs.Cell.Cell.{Kept}
 use Rattle.block_sights.specs.Sights.Sight.{Whole}
 use Rattle.script_text.specs.Action.{Action}
-use Rattle.script_text.specs.Action.Action.{BScar, BWrite, VDiscard, VDiscardIf, VStore, VSync}
+use Rattle.script_text.specs.Action.Action.{BScar, BWrite, PoisonVolume, VDiscard, VDiscardIf, VStore, VSync}
 use Rattle.cut_places.specs.MachineModel.WorkedScripts.{small}
 use Rattle.cut_places.specs.Outcomes.Blocks.{BlockRead}
 use Rattle.cut_places.specs.Outcomes.Blocks.BlockReply.{Shows as ShowsBlocks, Scar}
@@ -75,6 +75,8 @@ pub record WitnessRows : Type 0 where
   pub both_gone : line_witness (Some (VDiscard 0 2)) (both_read 0 0) two_pages ≡ codes " | volume 0 00*8 | volume 4096 00*8"
   pub both_there : line_witness (Some (VDiscard 0 2)) (both_read 7 8) two_pages ≡ codes " | volume 0 07,00*7 | volume 4096 08,00*7"
   pub one_gone : line_witness (Some (VDiscardIf 0 2)) (both_read 0 8) two_pages ≡ codes " | volume 0 00*8 | volume 4096 08,00*7"
+  -- what a media error marks no cut leaves otherwise
+  pub marked : line_witness (Some (PoisonVolume 0)) (read_of 0 1 (Shows (7 ∷ [])) ∷ []) (line_0 (word_with (7 ∷ [])) ∷ []) ≡ []
   -- what could not be otherwise is not told, and a word once
   pub settled : line_witness None (read_of 0 1 (Shows (7 ∷ [])) ∷ []) (line_0 (word_with (7 ∷ [])) ∷ []) ≡ []
   pub once : line_witness None (read_of 0 1 (Shows (1 ∷ [])) ∷ read_of 0 2 (Shows (1 ∷ 0 ∷ [])) ∷ []) (line_0 (word_with (0 ∷ 1 ∷ [])) ∷ line_0 (word_with (0 ∷ 1 ∷ [])) ∷ [])

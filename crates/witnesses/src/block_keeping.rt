@@ -8,9 +8,9 @@ ghost use Rattle.cut_places.specs.AskedReads.Program.{IsBounded};
 ghost use Rattle.witnesses.specs.Blocks.{block_kept, block_made, kept_block};
 
 use crate::block_kept::BlockKept;
-use crate::staying::{make, stays};
+use crate::staying::{make, mixing, stays, way_of_blocks};
 use cut_places::reads_asked::Question;
-use cut_places::sights_seen::{BlockSeen, Way, same_block};
+use cut_places::sights_seen::{BlockSeen, same_block};
 use script_text::Command;
 use std::alloc::{AllocError, Global};
 use word_tables::Geometry;
@@ -28,11 +28,12 @@ pub fn keep_blocks(
     ensures { IfOk result (λ kept. kept.items
         ≡ map (block_kept geometry (option_map action_of (option_copied inside.entry)) (blocks_of question.now) units.now) units.now) }
 {
-    let way = inside.and_then(Way::of_blocks);
+    let way = way_of_blocks(inside);
+    let mixed = mixing(way, inside);
     let mut kept = Vec::new(alloc);
     for seen in units {
         let stays = stays(units, question, way, seen);
-        kept.push(keep_block(geometry, inside, stays, seen)?)?;
+        kept.push(keep_block(geometry, mixed, stays, seen)?)?;
     }
     Ok(kept)
 }

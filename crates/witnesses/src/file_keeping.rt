@@ -34,14 +34,16 @@ pub fn keep_files(
     Ok(kept)
 }
 
-// The files once the command is done, or the same where there is none.
+// The files once the command is done, where a cut inside it may leave such, or the same.
 fn make_files(now: &FilesSeen, inside: Option<&Command>) -> Result<FilesSeen, AllocError>
     requires bounded { IsBounded (option_copied inside) }
     ensures { IfOk result (λ made. made ≡ files_made (option_map action_of (option_copied inside.entry)) now.now) }
 {
     let mut made = now.duplicate()?;
     if let Some(command) = inside {
-        made.change(command)?;
+        if now.way_inside(command).is_some() {
+            made.change(command)?;
+        }
     }
     Ok(made)
 }

@@ -9,10 +9,10 @@ ghost use Rattle.witnesses.specs.Lines.{kept_line, line_kept, line_made};
 
 use crate::asked::Asked;
 use crate::line_kept::LineKept;
-use crate::staying::{make, stays};
+use crate::staying::{make, mixing, stays, way_of_lines};
 use crate::words::{free_words, line_left};
 use cut_places::reads_asked::Question;
-use cut_places::sights_seen::{LineSeen, Way};
+use cut_places::sights_seen::LineSeen;
 use script_text::Command;
 use std::alloc::{AllocError, Global};
 use word_tables::Geometry;
@@ -30,11 +30,12 @@ pub fn keep_lines(
     ensures { IfOk result (λ kept. kept.items
         ≡ map (line_kept geometry (option_map action_of (option_copied inside.entry)) (volume_asked question.now) lines.now) lines.now) }
 {
-    let way = inside.and_then(Way::of_lines);
+    let way = way_of_lines(inside);
+    let mixed = mixing(way, inside);
     let mut kept = Vec::new(alloc);
     for seen in lines {
         let stays = stays(lines, question, way, seen);
-        kept.push(keep_line(question, geometry, inside, stays, seen)?)?;
+        kept.push(keep_line(question, geometry, mixed, stays, seen)?)?;
     }
     Ok(kept)
 }

@@ -19,6 +19,7 @@ returns c = record {
   both_gone = refl;
   both_there = refl;
   one_gone = refl;
+  marked = refl;
   settled = refl;
   once = refl;
   one_of_two = refl;
