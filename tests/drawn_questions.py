@@ -3,7 +3,7 @@
 
 The model (cut_model.py) tells the first place of a cut after which a look may be as it is asked, a table (table_model.py), and all outcomes
 (list_model.py), where they are few. What PROGRAM, an nvmhost, shows after a cut somewhere in a script is asked too, and EXPLORER must
-answer that place or one before it. Prints what does not fit, and nothing else.
+answer that place or one before it; which commands are refused PROGRAM tells. Prints what does not fit, and nothing else.
 """
 import os
 import random
@@ -23,6 +23,7 @@ BY_IMAGE = 20  # scripts: the first ones are of four commands alone, and they an
 ASKED, CUT = 12, 3  # questions drawn for each, and runs of it that are cut
 PARTS, LISTED = 12, 300  # the most of a list, and its outcomes at most
 AT_ONCE = 10  # seconds of a processor, for questions of many words
+MARKED, BEGUN = 12, 3  # one command in so many is to be refused, and one script in so many has a line from which cuts are asked about
 
 
 def question(draw, places, turns, reads):
@@ -56,6 +57,15 @@ class Image:
         return [f"vdiscard 0 {PAGES}", f"bdiscard 0 {BLOCKS}", *gone, *self.lines, "cut", "restart all"]
 
 
+def with_marks(draw, lines, begins):
+    """The program with `# refused` before some commands, and with `# begin` behind these lines or later, here and there."""
+    begin = draw.randrange(begins, len(lines) + 1) if draw.randrange(BEGUN) == 0 else None
+    marked = []
+    for i, line in enumerate(lines):
+        marked += ["# begin"] * (i == begin) + ["# refused"] * (is_command(line) and draw.randrange(MARKED) == 0) + [line]
+    return marked + ["# begin"] * (begin == len(lines))
+
+
 class Script:
     """A program on an image, its look, and questions, each with the place where a run showed it (None where none did)."""
 
@@ -66,27 +76,48 @@ class Script:
         told, looks = (story_of_files if of_files else story)(draw, homes) if kinds is not FEW and draw.randrange(2) else ([], [])
         first = files_drawn(draw) if of_files and not told else []
         first += [order(draw, homes, ranges, FIRST) for _ in range(0 if kinds is FEW else draw.randrange(5))]
-        self.program = first + told + [order(draw, homes, ranges, kinds) for _ in range(draw.randrange(1, 14))]
+        told = with_marks(draw, told, 0)
+        rest = [order(draw, homes, ranges, kinds) for _ in range(draw.randrange(1, 14))]
+        self.program = first + told + (rest if "# begin" in told else with_marks(draw, rest, 0))
+        self.begin = self.program.index("# begin") + 1 if "# begin" in self.program else 0
         self.numbers = [n for n, line in enumerate(self.program, 1) if is_command(line)]
         self.reads = looks + [read_drawn(draw, homes, of_files) for _ in range(0 if looks else draw.choice((1, 2, 3)))]
-        self.places, self.replies, _ = places_of(image.state, ranges, self.program)
+        places, self.replies, _ = places_of(image.state, ranges, self.program)
+        self.places = [place for place in places if int(place[0].split()[1]) > self.begin]
         turns = [i for i, (name, _, _) in enumerate(self.places) if len(first) < int(name.split()[1]) <= len(first + told) + 1 and told]
         drawn = dict.fromkeys(question(draw, self.places, turns, self.reads) for _ in range(ASKED))
         self.slips = {asked: why for asked in drawn if (why := first_slip(self.reads, asked.split(" | ")))}
         self.questions = {asked: None for asked in drawn if asked not in self.slips}
+        self.draw = draw
         self.tables = draw.choice(([], [], ["# table"]))
         parts = parts_of(self.reads)
         self.listed = list_of(self.places, parts, LISTED) if len(parts) <= PARTS else None
 
-    def text(self, questions):
-        asked = [f"# never {asked}" for asked in questions]
+    def text(self, questions, wanted=()):
+        """The script of these questions, with what is wanted of each, `never` where nothing is said."""
+        wanted = [*wanted, *["never"] * (len(questions) - len(wanted))]
+        asked = [f"# {word} {asked}" for word, asked in zip(wanted, questions)]
         lists = ["# list"] if self.listed else []
         return "".join(line + "\n" for line in [*self.program, "# look", *self.reads, *lists, *self.tables, *asked])
+
+    def refusals(self, replies):
+        """What is told of the program's commands, which were answered so."""
+        told = []
+        for n, reply in zip(self.numbers, replies):
+            refused = reply.split()[0] in ("refused", "poison", "scarred")
+            if refused != self.is_marked(n):
+                told.append(f"refused {n} {reply.removeprefix('refused ')}" if refused else f"not refused {n}")
+        return told
+
+    def is_marked(self, n):
+        """Whether the command on this line is to be refused."""
+        before = [line for line in self.program[:n - 1] if is_command(line) or line == "# refused"]
+        return before[-1:] == ["# refused"]
 
     def run_cut(self, draw):
         """Before which line a cut comes or is armed, the lines of such a run, and its look's."""
         end = len(self.program) + 1
-        at = draw.choice([*self.numbers, end])
+        at = draw.choice([*(n for n in self.numbers if n > self.begin), end])
         calls = draw.choice((1, 2, 3, 5, draw.randrange(1, 20), draw.randrange(1, 90), draw.randrange(1, 300)))
         stop = ["cut"] if at == end or draw.randrange(3) == 0 else [f"cut in {calls}", *self.program[at - 1:]]
         choice = draw.choice(("none", "all", *[f"seed {draw.randrange(1 << 32)}"] * 2))
@@ -129,11 +160,14 @@ def run_all(program, room, draw, image, scripts):
 
 
 def explored(explorer, room, image, text, rows=0):
-    """So many lines of a table and a list, the answers to a script's questions, and whether the status is that of these answers."""
+    """So many lines before the answers, the answers to a script's questions, and the status."""
     done = subprocess.run([explorer, image], cwd=room, input=text, capture_output=True, text=True)
     lines = done.stdout.splitlines()
-    answers = lines[rows:]
-    return lines[:rows], answers, done.returncode == int(any(answer != "never" for answer in answers))
+    return lines[:rows], lines[rows:], done.returncode
+
+
+def status_of(refusals, wanted, answers):
+    return int(bool(refusals) or any((word == "may") == (answer == "never") for word, answer in zip(wanted, answers)))
 
 
 def refuse(explorer, room, script):
@@ -145,12 +179,16 @@ def refuse(explorer, room, script):
             sys.exit(f"status {done.returncode}, {done.stdout[:200]} in place of {why}:\n{text}")
 
 
-def compare(explorer, room, script):
+def compare(program, explorer, room, script):
     refuse(explorer, room, script)
     if not (script.questions or script.tables or script.listed):
         return
-    told = (table_of(script.places, script.reads) if script.tables else []) + (script.listed or [])
-    rows, answers, right = explored(explorer, room, script.image.name, script.text(script.questions), len(told))
+    replies = replies_to(program, room, [script.image.name, "out"], script.program)
+    told = script.refusals(replies)
+    status, wanted = bool(told), [script.draw.choice(("never", "may")) if set(asked) - set("_| ") else "never" for asked in script.questions]
+    told += (table_of(script.places, script.reads) if script.tables else []) + (script.listed or [])
+    rows, answers, ended = explored(explorer, room, script.image.name, script.text(script.questions, wanted), len(told))
+    right = ended == status_of(status, wanted, answers)
     for row, wanted in zip(rows, told):
         if row != wanted:
             sys.exit(f"{row} of what is listed, by the model {wanted}, on the image that {script.image.lines} leaves:\n{script.text([])}")
@@ -180,10 +218,10 @@ def at_once(explorer, room, made, store, load, sync):
     ):
         text = "".join(line + "\n" for line in [*program, "# look", *reads, *(f"# never {asked}" for asked in questions)])
         began = resource.getrusage(resource.RUSAGE_CHILDREN).ru_utime
-        _, answers, right = explored(explorer, room, made, text)
+        _, answers, ended = explored(explorer, room, made, text)
         took = resource.getrusage(resource.RUSAGE_CHILDREN).ru_utime - began
         places = [answer.split(" |")[0] for answer in answers]
-        if not right or places != list(questions.values()) or took > AT_ONCE:
+        if ended != status_of([], ["never"] * len(answers), answers) or places != list(questions.values()) or took > AT_ONCE:
             sys.exit(f"{answers} after {took:.1f} seconds to\n{text}")
 
 
@@ -203,7 +241,7 @@ def main():
             scripts = [Script(draw, image, ranges, draw.choice(kinds)) for _ in range(min(BY_IMAGE, count - i))]
             run_all(program, room, draw, image, scripts)
             for script in scripts:
-                compare(explorer, room, script)
+                compare(program, explorer, room, script)
         replies_to(program, room, ["img", "made"], ["create f 2"])
         at_once(explorer, room, "img", "vstore", "vload", "vsync 0 1")
         at_once(explorer, room, "made", "fwrite f", "fread f", "fsync f")

@@ -17,10 +17,8 @@ held() {
 
 # answered FOLDER: the same of its question. It leaves the image as it is, and nvmhost takes the same script.
 answered() {
-    local wanted=0
-    ! grep -q '^may' "$1/answers" || wanted=1
     cp img asked
-    held "$1/question" "$1/answers" "$wanted" "$explorer" img
+    held "$1/question" "$1/answers" "$(said_of "$1" question_status 0)" "$explorer" img
     cmp img asked 2>&1
     "$program" run img performed <"$1/question" >said || echo "nvmhost: status $?"
     ! grep syntax said

@@ -1,5 +1,5 @@
 -- A call once its image is mounted: what came of its script.
-use Rattle.std.proofs.Common.{◌≡◌, ◌<◌, ◌≤◌, ℕ, Bool, List, [], ◌∷◌, ◌++◌, length, map, Option, None, Result, Ok, Err, inl, inr, refl, sym, ap, ap₂, subst, ◌∙◌, append_assoc, append-nil, if◌then◌else◌, arith}
+use Rattle.std.proofs.Common.{◌≡◌, ◌<◌, ◌≤◌, ◌==◌, ◌||◌, not, ℕ, Bool, List, [], ◌∷◌, ◌++◌, length, map, Option, None, Result, Ok, Err, inl, inr, refl, sym, ap, ap₂, subst, ◌∙◌, append_assoc, append-nil, if◌then◌else◌, arith}
 use Rattle.std.specs.Prelude.{IfErr}
 use Rattle.std.specs.Io.KnownBytes.{Appends, Consumes, IsAtEnd}
 use Rattle.nvm_base.specs.Counts.{Rose}
@@ -13,16 +13,15 @@ use Rattle.recovery.specs.Findings.{first_finding}
 use Rattle.script_text.specs.Script.{Input}
 use Rattle.word_tables.specs.declared.geometry.Geometry.{Geometry}
 use Rattle.outcome_lists.specs.MachineModel.Machine.{Machine}
-use Rattle.outcome_lists.specs.OutcomeTest.Finds.{armed}
 use Rattle.outcome_lists.specs.OutcomeTest.Seen.{Seen}
 use Rattle.outcome_lists.specs.OutcomeTest.Stops.{IsProgram}
 use Rattle.outcome_lists.specs.AskedReads.Looking.{read_action}
 use Rattle.outcome_lists.specs.AskedReads.Program.{asks_for, inputs_of_lines}
 use Rattle.outcome_lists.specs.AskedReads.declared.read.Read.{Read as ReadOfLook}
 use Rattle.outcome_lists.specs.AskedReads.declared.read.Read.TheVariants as looks
-use Rattle.exploration.specs.Exploration.{Exploration, Script, script_of}
+use Rattle.exploration.specs.Exploration.{Asked, Exploration, Script, script_of}
 use Rattle.exploration.specs.Exploration.Script.{StopsAt, Taken}
-use Rattle.exploration.specs.Reading.{AskOf, Holds, ReadsScript}
+use Rattle.exploration.specs.Reading.{AskOf, Holds, IsExplored, ReadsScript}
 use Rattle.exploration.specs.declared.exploration.Exploration.{Exploration as Read}
 use Rattle.exploration.specs.declared.exploration.ScriptFault.{ScriptFault}
 use Rattle.exploration.specs.declared.exploration.ScriptFault.TheVariants as script
@@ -35,8 +34,8 @@ use Rattle.program_base.specs.Writing.{WritesFront, WritesLine}
 use Rattle.program_base.proofs.BytesLemmas.{appends_then}
 use Rattle.program_base.specs.declared.ending.Ending.{Ending}
 use Rattle.program_base.specs.declared.ending.Ending.TheVariants as endings
-use Rattle.explore_program.specs.Calls.{AnswersAll, AreTheorems, Fails, Halts, IsCaused, IsTaken, IsUnanswered, IsUnread, LeavesImages, Outcome, TellsShown, asked_first, most, reads_of}
-use Rattle.explore_program.specs.Showing.{shown}
+use Rattle.explore_program.specs.Calls.{AnswersAll, AreCommands, AreTheorems, Fails, Halts, IsCaused, IsTaken, IsUnanswered, IsUnread, LeavesImages, Outcome, TellsShown, asked_first, begun, found, most, reads_of, refused_text}
+use Rattle.explore_program.specs.Showing.{begun_at, refusals, shown}
 use Rattle.explore_program.specs.Stops.{of_script, stop_status}
 use Rattle.explore_program.specs.declared.stop.Stop.{Stop}
 use Rattle.explore_program.specs.declared.stop.Stop.TheVariants as stops
@@ -73,9 +72,15 @@ caused_unanswered geo (stops.Early (endings.Meta line)) text old new cause = cau
 caused_unanswered geo (stops.Script n why) text old new cause = absurd cause
 caused_unanswered geo stops.Usage text old new cause = cause
 
--- what is shown of a script that was read is what is asked for
-abbrev pub read_first : Machine → Read → List ℕ
-read_first h x = shown x.table x.list (armed h) (inputs_of_lines x.program.items) x.reads.items
+-- what is reported of the commands of a script that was read, and what is shown, is what the script asks for
+abbrev pub read_refused : Machine → Read → List ℕ
+read_refused h x = refusals h (inputs_of_lines x.first.items) (inputs_of_lines x.program.items) x.refused.items
+
+abbrev pub read_shown : Machine → Read → List ℕ
+read_shown h x = shown x.table x.list (begun_at h (inputs_of_lines x.first.items)) (inputs_of_lines x.program.items) x.reads.items
+
+abbrev pub read_found : Machine → Read → List Seen → Option Place
+read_found h x = found_stop (begun_at h (inputs_of_lines x.first.items)) (inputs_of_lines x.program.items)
 
 reads_are : (reads : List ReadOfLook) → reads_of (map read_action reads) ≡ reads
 reads_are [] = refl
@@ -83,11 +88,28 @@ reads_are (looks.Volume start len ∷ reads) = ap (λ rs. looks.Volume start len
 reads_are (looks.Blocks first count ∷ reads) = ap (λ rs. looks.Blocks first count ∷ rs) (reads_are reads)
 reads_are (looks.File name start len ∷ reads) = ap (λ rs. looks.File name start len ∷ rs) (reads_are reads)
 
-same_first : (h : Machine) (x : Read) (e : Exploration) → inputs_of_lines x.program.items ≡ map asks_for e.program → map read_action x.reads.items ≡ e.reads → x.table ≡ e.table → x.list ≡ e.list
-    → read_first h x ≡ asked_first h e
-same_first h x e inputs reads table list =
-    ap₂ (λ t l. shown t l (armed h) (inputs_of_lines x.program.items) x.reads.items) table list
-    ∙ ap₂ (λ rs ins. shown e.table e.list (armed h) ins rs) (sym (reads_are x.reads.items) ∙ ap reads_of reads) inputs
+module _ (h : Machine) (x : Read) (e : Exploration) (holds : IsExplored e x) where
+  first_is : inputs_of_lines x.first.items ≡ map asks_for e.first
+  first_is = same_inputs x.first.items e.first holds.first
+
+  program_is : inputs_of_lines x.program.items ≡ map asks_for e.program
+  program_is = same_inputs x.program.items e.program holds.program
+
+  same_refused : read_refused h x ≡ refused_text h e
+  same_refused =
+      ap₂ (λ f p. refusals h f p x.refused.items) first_is program_is ∙ ap (refusals h (map asks_for e.first) (map asks_for e.program)) holds.refused
+
+  same_shown : read_shown h x ≡ shown e.table e.list (begun h e) (map asks_for e.program) (reads_of e.reads)
+  same_shown =
+      ap₂ (λ t l. shown t l (begun_at h (inputs_of_lines x.first.items)) (inputs_of_lines x.program.items) x.reads.items) holds.table holds.list
+      ∙ ap₂ (λ f p. shown e.table e.list (begun_at h f) p x.reads.items) first_is program_is
+      ∙ ap (shown e.table e.list (begun h e) (map asks_for e.program)) (sym (reads_are x.reads.items) ∙ ap reads_of holds.reads)
+
+  same_first : read_refused h x ++ read_shown h x ≡ asked_first h e
+  same_first = ap₂ (λ r t. r ++ t) same_refused same_shown
+
+  same_found : read_found h x ≡ found h e
+  same_found = ap₂ (λ f p. found_stop (begun_at h f) p) first_is program_is
 
 -- why questions were not answered, told by an earlier count of writes
 unanswered_counted : (stop : Stop) (a b c : ℕ) (old new : Panel) → a ≤ b → IsUnanswered stop b c old new → IsUnanswered stop a c old new
@@ -104,29 +126,50 @@ unanswered_counted (stops.Script n why) a b c old new later cause = cause
 unanswered_counted stops.Usage a b c old new later cause = cause
 
 -- answers behind a text
-pub behind_shown : (table : List ℕ) (tell : List Seen → Option Place) (looks : List (List Seen)) (result : Result Bool Stop) (old mid new : Option (List ℕ)) (a b c : ℕ) (began at end : Panel)
-    → Appends old mid table → a ≤ b → NoneFell began at → AnswersAll [] tell looks result mid new b c at end → AnswersAll table tell looks result old new a c began end
-behind_shown table tell looks (Ok may) old mid new a b c began at end wrote later fell told = (told.0, told.1, told.2, appends_then old mid new table told.1 wrote told.3)
-behind_shown table tell looks (Err stop) old mid new a b c began at end wrote later fell told = (
+pub behind_shown : (table front : List ℕ) (tell : List Seen → Option Place) (asked : List Asked) (result : Result Bool Stop) (old mid new : Option (List ℕ)) (a b c : ℕ) (began at end : Panel)
+    → Appends old mid table → a ≤ b → NoneFell began at → AnswersAll front tell asked result mid new b c at end → AnswersAll (table ++ front) tell asked result old new a c began end
+behind_shown table front tell asked (Ok missed) old mid new a b c began at end wrote later fell told = (
+  told.0,
+  told.1,
+  told.2,
+  subst (Appends old new) (sym (append_assoc table front told.1)) (appends_then old mid new table (front ++ told.1) wrote told.3),
+)
+behind_shown table front tell asked (Err stop) old mid new a b c began at end wrote later fell told = (
   unanswered_counted stop a b c began end later (unanswered_later stop b c began at end fell told.0),
   told.1,
   told.2,
   record {
     part = table ++ told.3.part;
-    front = record { rest = told.3.front.rest; joined = append_assoc table told.3.part told.3.front.rest ∙ ap (λ text. table ++ text) told.3.front.joined };
+    front = record {
+      rest = told.3.front.rest;
+      joined = append_assoc table told.3.part told.3.front.rest ∙ ap (λ text. table ++ text) told.3.front.joined ∙ sym (append_assoc table front told.1);
+    };
     wrote = appends_then old mid new table told.3.part wrote told.3.wrote;
   },
 )
 
--- and none, where it was not written whole
-pub no_shown : (table : List ℕ) (tell : List Seen → Option Place) (looks : List (List Seen)) (stop : Stop) (old new : Option (List ℕ)) (a c : ℕ) (began end : Panel)
-    → TellsShown table (Err stop) old new a c began end → AnswersAll table tell looks (Err stop) old new a c began end
-no_shown table tell looks stop old new a c began end told = (
-  told.0,
-  [],
-  record { first = []; later = looks; joined = refl; answered = refl },
-  subst (λ text. WritesFront text old new) (sym (append-nil table)) told.1,
-)
+-- and none, where not all of what comes first was written
+pub no_shown : {A : Type 0} (table rest : List ℕ) (tell : List Seen → Option Place) (asked : List Asked) (result : Result A Stop) (stop : Stop) (old new : Option (List ℕ)) (a c : ℕ) (began end : Panel)
+    → result ≡ Err stop → TellsShown table result old new a c began end → AnswersAll (table ++ rest) tell asked (Err stop) old new a c began end
+no_shown table rest tell asked result stop old new a c began end failed says =
+    let told = subst (λ r. TellsShown table r old new a c began end) failed says in (
+      told.0,
+      [],
+      record { first = []; later = asked; joined = refl; answered = refl },
+      record {
+        part = told.1.part;
+        front = record {
+          rest = told.1.front.rest ++ rest;
+          joined = sym (append_assoc told.1.part told.1.front.rest rest) ∙ ap (λ t. t ++ rest) told.1.front.joined ∙ sym (append-nil (table ++ rest));
+        };
+        wrote = told.1.wrote;
+      },
+    )
+
+-- the call's result, by whether refusals were reported
+abbrev pub ended : Bool → Result Bool Stop → Result Bool Stop
+ended refused (Ok missed) = Ok (refused || missed)
+ended refused (Err stop) = Err stop
 
 module _ (name : List ℕ) (lines : List LineState) (old new : World) (there : IsHeld name old.held lines) (right : first_finding (medium_of lines) ≡ None) (images : LeavesImages old new) where
   -- the script was not read to its end
@@ -156,16 +199,18 @@ module _ (name : List ℕ) (lines : List LineState) (old new : World) (there : I
     images = images;
   }
 
-  module _ (text : List ℕ) (e : Exploration) (taken : IsTaken (opened lines).geometry text e old new) (theorems : AreTheorems (opened lines) (map asks_for e.program)) (started : Panel) (fell : NoneFell old.device.panel started) where
-    outcome_taken : (result : Result Bool Stop) → AnswersAll (asked_first (opened lines) e) (found_stop (opened lines) (map asks_for e.program)) e.questions result old.written new.written old.writes new.writes started new.device.panel → Outcome name result old new
-    outcome_taken (Ok may) told = record {
+  module _ (text : List ℕ) (e : Exploration) (taken : IsTaken (opened lines).geometry text e old new) (theorems : AreTheorems (begun (opened lines) e) (map asks_for e.program)) (started : Panel) (fell : NoneFell old.device.panel started)
+      (refused : Bool) (are : refused ≡ not (length (refused_text (opened lines) e) == 0)) where
+    outcome_taken : (result : Result Bool Stop) → AnswersAll (asked_first (opened lines) e) (found (opened lines) e) e.questions result old.written new.written old.writes new.writes started new.device.panel
+        → Outcome name (ended refused result) old new
+    outcome_taken (Ok missed) told = record {
       lines = lines;
       there = there;
       right = right;
       script = text;
       exploration = e;
       taken = taken;
-      status = ap (λ b. if b then 1 else 0) told.0;
+      status = ap₂ (λ r m. if r || m then 1 else 0) are told.0;
       text = told.1;
       answered = told.2;
       wrote = told.3;
@@ -184,20 +229,23 @@ module _ (name : List ℕ) (lines : List LineState) (old new : World) (there : I
     })
 
   -- the script was read and taken
-  pub outcome_read : (text : List ℕ) (x : Read) (result : Result Bool Stop) (started : Panel) → NoneFell old.device.panel started → Consumes old.left new.left text → IsAtEnd new.left → length text < most → ReadsScript (script_of (opened lines).geometry text) (Ok x)
-      → IsProgram (inputs_of_lines x.program.items)
-      → ((e : Exploration) → script_of (opened lines).geometry text ≡ Taken e → IsProgram (map asks_for e.program) → AreTheorems (opened lines) (map asks_for e.program))
-      → ((looks : List (List Seen)) → AskOf looks x.questions.items
-      → AnswersAll (read_first (opened lines) x) (found_stop (opened lines) (inputs_of_lines x.program.items)) looks result old.written new.written old.writes new.writes started new.device.panel)
-      → Outcome name result old new
-  outcome_read text x result started fell read ended short is program theorems tells = by_script (script_of (opened lines).geometry text) refl is
+  pub outcome_read : (text : List ℕ) (x : Read) (result : Result Bool Stop) (refused : Bool) (started : Panel) → NoneFell old.device.panel started → Consumes old.left new.left text → IsAtEnd new.left → length text < most
+      → ReadsScript (script_of (opened lines).geometry text) (Ok x) → AreCommands x.first.items → AreCommands x.program.items
+      → ((e : Exploration) → script_of (opened lines).geometry text ≡ Taken e → IsProgram (map asks_for e.first) → IsProgram (map asks_for e.program) → AreTheorems (begun (opened lines) e) (map asks_for e.program))
+      → refused ≡ not (length (read_refused (opened lines) x) == 0)
+      → ((asked : List Asked) → AskOf asked x.questions.items
+      → AnswersAll (read_refused (opened lines) x ++ read_shown (opened lines) x) (read_found (opened lines) x) asked result old.written new.written old.writes new.writes started new.device.panel)
+      → Outcome name (ended refused result) old new
+  outcome_read text x result refused started fell read at_end short is first program theorems are tells = by_script (script_of (opened lines).geometry text) refl is
     where
-      by_script : (s : Script) → script_of (opened lines).geometry text ≡ s → Holds s x → Outcome name result old new
+      by_script : (s : Script) → script_of (opened lines).geometry text ≡ s → Holds s x → Outcome name (ended refused result) old new
       by_script (Taken e) told holds =
-          let same : inputs_of_lines x.program.items ≡ map asks_for e.program = same_inputs x.program.items e.program holds.0 in
-          outcome_taken text e (record { read = read; ended = ended; short = short; is = told }) (theorems e told (subst IsProgram same program)) started fell result
-          (subst (λ table. AnswersAll table (found_stop (opened lines) (map asks_for e.program)) e.questions result old.written new.written old.writes new.writes started new.device.panel) (same_first (opened lines) x e same holds.1 holds.2 holds.3)
-          (subst (λ (inputs : List Input). AnswersAll (read_first (opened lines) x) (found_stop (opened lines) inputs) e.questions result old.written new.written old.writes new.writes started new.device.panel) same (tells e.questions holds.4)))
+          outcome_taken text e (record { read = read; ended = at_end; short = short; is = told })
+          (theorems e told (subst IsProgram (first_is (opened lines) x e holds) first.program) (subst IsProgram (program_is (opened lines) x e holds) program.program))
+          started fell refused (are ∙ ap (λ t. not (length t == 0)) (same_refused (opened lines) x e holds)) result
+          (subst (λ front. AnswersAll front (found (opened lines) e) e.questions result old.written new.written old.writes new.writes started new.device.panel) (same_first (opened lines) x e holds)
+          (subst (λ (tell : List Seen → Option Place). AnswersAll (read_refused (opened lines) x ++ read_shown (opened lines) x) tell e.questions result old.written new.written old.writes new.writes started new.device.panel)
+          (same_found (opened lines) x e holds) (tells e.questions holds.questions)))
       by_script (StopsAt n why) told holds = absurd holds
 
 -- words of which there is one name it

@@ -1,5 +1,5 @@
 -- What a call does, and how it ends early.
-use Rattle.std.specs.Prelude.{◌≡◌, ◌⊎◌, ◌<◌, ◌≤◌, ◌++◌, ℕ, Bool, List, [], ◌∷◌, length, map, Option, Some, None, IfSome, Result, Ok, Err, MatchResult, if◌then◌else◌, ⊤}
+use Rattle.std.specs.Prelude.{◌≡◌, ◌⊎◌, ◌<◌, ◌≤◌, ◌++◌, ◌==◌, ◌||◌, not, ℕ, Bool, List, [], ◌∷◌, length, map, Option, Some, None, IfSome, Result, Ok, Err, MatchResult, if◌then◌else◌, ⊤, All}
 use Rattle.std.specs.List.{AllByRecursion}
 use Rattle.std.specs.Io.KnownBytes.{Appends, Consumes, IsAtEnd}
 use Rattle.nvm_base.specs.Counts.{Rose}
@@ -13,12 +13,14 @@ use Rattle.outcome_lists.specs.MachineModel.Machine.{Machine}
 use Rattle.recovery.specs.Findings.{first_finding}
 use Rattle.word_tables.specs.declared.geometry.Geometry.{Geometry}
 use Rattle.script_text.specs.Action.{Action}
+use Rattle.script_text.specs.declared.command.Command.{Command}
 use Rattle.script_text.specs.Script.{Input}
-use Rattle.outcome_lists.specs.OutcomeTest.Finds.{Finds, armed}
+use Rattle.outcome_lists.specs.OutcomeTest.Finds.{Finds}
 use Rattle.outcome_lists.specs.OutcomeTest.Seen.{Seen}
-use Rattle.outcome_lists.specs.AskedReads.Program.{asks_for}
+use Rattle.outcome_lists.specs.OutcomeTest.Stops.{IsProgram}
+use Rattle.outcome_lists.specs.AskedReads.Program.{IsBounded, asks_for, inputs_of_lines}
 use Rattle.outcome_lists.specs.AskedReads.declared.read.Read.{Read}
-use Rattle.exploration.specs.Exploration.{Exploration, script_of}
+use Rattle.exploration.specs.Exploration.{Asked, Exploration, script_of}
 use Rattle.exploration.specs.Exploration.Script.{StopsAt, Taken}
 use Rattle.exploration.specs.Reads.{read_of}
 use Rattle.outcome_lists.specs.CutPlaces.Places.{Stop, found_stop}
@@ -31,12 +33,17 @@ use Rattle.program_base.specs.Writing.{WritesFront, WritesLine}
 use Rattle.program_base.specs.declared.ending.Ending.{Ending}
 use Rattle.program_base.specs.declared.ending.Ending.TheVariants as endings
 use Rattle.explore_program.specs.Lists.{ListsRuns}
-use Rattle.explore_program.specs.Showing.{shown}
+use Rattle.explore_program.specs.Showing.{begun_at, refusals, shown}
 use Rattle.explore_program.specs.Stops.{stop_status, stop_text}
 use Rattle.explore_program.specs.Tables.{TellsRuns}
-use Rattle.explore_program.specs.Telling.{answer_line, answers_status, is_any_found}
+use Rattle.explore_program.specs.Telling.{answer_line, is_any_missed}
 use Rattle.explore_program.specs.declared.stop.Stop.{Stop as Stopped}
 use Rattle.explore_program.specs.declared.stop.Stop.TheVariants as stops
+
+-- lines of a program, their numbers within bounds
+pub record AreCommands (lines : List (Option Command)) : Type 0 where
+  pub program : IsProgram (inputs_of_lines lines)
+  pub bounds : All IsBounded lines
 
 -- the reads that these commands are
 abbrev pub and_read : Option Read → List Read → List Read
@@ -47,25 +54,37 @@ abbrev pub reads_of : List Action → List Read
 reads_of [] = []
 reads_of (action ∷ actions) = and_read (read_of action) (reads_of actions)
 
--- the table and the list that are asked for, if they are, from that state on
-abbrev pub asked_first : Machine → Exploration → List ℕ
-asked_first h e = shown e.table e.list (armed h) (map asks_for e.program) (reads_of e.reads)
+-- the state from which cuts are asked about
+abbrev pub begun : Machine → Exploration → Machine
+begun h e = begun_at h (map asks_for e.first)
 
--- of each question the first place of a cut after which its look may be as asked, from that state on
-abbrev pub found : Machine → Exploration → List (Option Stop)
-found h e = map (found_stop h (map asks_for e.program)) e.questions
+-- the commands that are refused, or done, otherwise than the script says
+abbrev pub refused_text : Machine → Exploration → List ℕ
+refused_text h e = refusals h (map asks_for e.first) (map asks_for e.program) e.refused
+
+-- and the table and the list that are asked for, if they are
+abbrev pub asked_first : Machine → Exploration → List ℕ
+asked_first h e = refused_text h e ++ shown e.table e.list (begun h e) (map asks_for e.program) (reads_of e.reads)
+
+-- of a look the first place of a cut after which it may be as asked
+abbrev pub found : Machine → Exploration → List Seen → Option Stop
+found h e look = found_stop (begun h e) (map asks_for e.program) look
+
+-- 1 where a command is refused, or done, otherwise than the script says, or a question is answered otherwise than it is to be, and else 0
+abbrev pub ended_by : Machine → Exploration → ℕ
+ended_by h e = if not (length (refused_text h e) == 0) || is_any_missed (found h e) e.questions then 1 else 0
 
 -- All these questions were answered with this text, a line each: where that tells that the look may be found, with what may be kept there.
-abbrev pub AreAnswered : (List Seen → Option Stop) → List (List Seen) → List ℕ → Type 0
+abbrev pub AreAnswered : (List Seen → Option Stop) → List Asked → List ℕ → Type 0
 AreAnswered tell [] text = text ≡ []
-AreAnswered tell (look ∷ looks) text =
-    (found : Option Found) × (rest : List ℕ) × IsFound look (tell look) found × (text ≡ answer_line look found ++ rest) × AreAnswered tell looks rest
+AreAnswered tell (asked ∷ others) text =
+    (found : Option Found) × (rest : List ℕ) × IsFound asked.look (tell asked.look) found × (text ≡ answer_line asked.look found ++ rest) × AreAnswered tell others rest
 
 -- the first ones of them were
-pub record FirstAnswered (tell : List Seen → Option Stop) (looks : List (List Seen)) (text : List ℕ) : Type 0 where
-  pub first : List (List Seen)
-  pub later : List (List Seen)
-  pub joined : first ++ later ≡ looks
+pub record FirstAnswered (tell : List Seen → Option Stop) (asked : List Asked) (text : List ℕ) : Type 0 where
+  pub first : List Asked
+  pub later : List Asked
+  pub joined : first ++ later ≡ asked
   pub answered : AreAnswered tell first text
 
 -- lines of an image, with which nothing is wrong
@@ -111,17 +130,17 @@ IsUnanswered (stops.Script n why) count_old count_new old new = ⊥
 IsUnanswered stops.Usage count_old count_new old new = ⊥
 
 -- That was written, or it was in part, and then came that.
-abbrev pub TellsShown : List ℕ → Result (Unit {0}) Stopped → Option (List ℕ) → Option (List ℕ) → ℕ → ℕ → Panel → Panel → Type 0
+abbrev pub TellsShown : {A : Type 0} → List ℕ → Result A Stopped → Option (List ℕ) → Option (List ℕ) → ℕ → ℕ → Panel → Panel → Type 0
 TellsShown text result old new count_old count_new device_old device_new = MatchResult result
     (λ _. Appends old new text)
     (λ stop. IsUnanswered stop count_old count_new device_old device_new × WritesFront text old new)
 
 -- Behind a text all questions were answered, each as this tells of its look; or all of that was written up to some place, with answers of
 -- the first questions, and then came that.
-abbrev pub AnswersAll : List ℕ → (List Seen → Option Stop) → List (List Seen) → Result Bool Stopped → Option (List ℕ) → Option (List ℕ) → ℕ → ℕ → Panel → Panel → Type 0
-AnswersAll front tell looks result old new count_old count_new device_old device_new = MatchResult result
-    (λ may. (may ≡ is_any_found (map tell looks)) × (text : List ℕ) × AreAnswered tell looks text × Appends old new (front ++ text))
-    (λ stop. IsUnanswered stop count_old count_new device_old device_new × (text : List ℕ) × FirstAnswered tell looks text × WritesFront (front ++ text) old new)
+abbrev pub AnswersAll : List ℕ → (List Seen → Option Stop) → List Asked → Result Bool Stopped → Option (List ℕ) → Option (List ℕ) → ℕ → ℕ → Panel → Panel → Type 0
+AnswersAll front tell asked result old new count_old count_new device_old device_new = MatchResult result
+    (λ missed. (missed ≡ is_any_missed tell asked) × (text : List ℕ) × AreAnswered tell asked text × Appends old new (front ++ text))
+    (λ stop. IsUnanswered stop count_old count_new device_old device_new × (text : List ℕ) × FirstAnswered tell asked text × WritesFront (front ++ text) old new)
 
 -- Each answer is a theorem: where it is never, no run of the machine from that state finds what was asked, and else some run does, which
 -- keeps then what is told. A table lists at some place what runs find by a read of it alone, and a list what they find together.
@@ -143,7 +162,7 @@ pub record LeavesImages (old new : World) : Type 0 where
   pub held : KeepsHeld (λ _. ⊤) old.held new.held
   pub counts : CountsOpening old.images new.images
 
--- The table and the list that are asked for were written, and all questions of the script were answered, from the state that is read in the image.
+-- What comes first was written, and all questions of the script were answered, from the state that is read in the image.
 pub record Answers (name : List ℕ) (ended : ℕ) (old new : World) : Type 0 where
   pub lines : List LineState
   pub there : IsHeld name old.held lines
@@ -151,11 +170,11 @@ pub record Answers (name : List ℕ) (ended : ℕ) (old new : World) : Type 0 wh
   pub script : List ℕ
   pub exploration : Exploration
   pub taken : IsTaken (opened lines).geometry script exploration old new
-  pub status : ended ≡ answers_status (found (opened lines) exploration)
+  pub status : ended ≡ ended_by (opened lines) exploration
   pub text : List ℕ
-  pub answered : AreAnswered (found_stop (opened lines) (map asks_for exploration.program)) exploration.questions text
+  pub answered : AreAnswered (found (opened lines) exploration) exploration.questions text
   pub wrote : Appends old.written new.written (asked_first (opened lines) exploration ++ text)
-  pub theorems : AreTheorems (opened lines) (map asks_for exploration.program)
+  pub theorems : AreTheorems (begun (opened lines) exploration) (map asks_for exploration.program)
   pub images : LeavesImages old new
 
 -- why not all of them were, once the image was mounted
@@ -183,7 +202,7 @@ pub record Halts (name : List ℕ) (stop : Stopped) (old new : World) : Type 0 w
   pub cause : IsCaused (opened lines).geometry stop script old new
   pub wrote : (new.written ≡ old.written)
       ⊎ ((e : Exploration) × IsTaken (opened lines).geometry script e old new × (text : List ℕ)
-      × FirstAnswered (found_stop (opened lines) (map asks_for e.program)) e.questions text × WritesFront (asked_first (opened lines) e ++ text) old.written new.written)
+      × FirstAnswered (found (opened lines) e) e.questions text × WritesFront (asked_first (opened lines) e ++ text) old.written new.written)
   pub images : LeavesImages old new
 
 -- the image was not opened, or not all was answered

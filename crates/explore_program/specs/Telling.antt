@@ -1,6 +1,9 @@
 -- What is said of the questions, and the status.
-use Rattle.std.specs.Prelude.{ℕ, Bool, List, ◌++◌, Option, Some, None, codes, is_some, if◌then◌else◌}
+use Rattle.std.specs.Prelude.{ℕ, Bool, List, ◌++◌, Option, Some, None, codes, is_none, is_some}
 use Rattle.std.specs.List.{list_any}
+use Rattle.exploration.specs.Exploration.{Asked}
+use Rattle.exploration.specs.declared.asking.Wanted.{Wanted}
+use Rattle.exploration.specs.declared.asking.Wanted.TheVariants as wanted
 use Rattle.outcome_lists.specs.OutcomeTest.Seen.{Seen, file_reads, volume_reads}
 use Rattle.outcome_lists.specs.Explorer.declared.found.Found.{Found}
 use Rattle.outcome_lists.specs.Lists.{place_text}
@@ -12,10 +15,11 @@ abbrev pub answer_line : List Seen → Option Found → List ℕ
 answer_line look None = line (codes "never")
 answer_line look (Some found) = codes "may " ++ (place_text found.place ++ line (kept_text (volume_reads look) (file_reads look) found.kept))
 
--- whether anything that was asked may be found
-abbrev pub is_any_found : {A : Type 0} → List (Option A) → Bool
-is_any_found founds = list_any is_some founds
+-- whether a question is answered otherwise than it is to be
+abbrev pub is_missed : {A : Type 0} → Wanted → Option A → Bool
+is_missed wanted.Never found = is_some found
+is_missed wanted.May found = is_none found
 
--- 0 where all stay never
-abbrev pub answers_status : {A : Type 0} → List (Option A) → ℕ
-answers_status founds = if is_any_found founds then 1 else 0
+-- whether any is, where this is what is found of its look
+abbrev pub is_any_missed : {A : Type 0} → (List Seen → Option A) → List Asked → Bool
+is_any_missed tell questions = list_any (λ (asked : Asked). is_missed asked.wanted (tell asked.look)) questions

@@ -1,44 +1,43 @@
 // One question, on a device made anew of the image.
-ghost use Rattle.std.specs.Prelude.{◌≡◌, ℕ, All, IfErr, IfOk, List, OnOk};
+ghost use Rattle.std.specs.Prelude.{◌≡◌, ℕ, IfErr, IfOk, List, OnOk};
 ghost use Rattle.outcome_lists.specs.OutcomeTest.Seen.{Seen};
-ghost use Rattle.outcome_lists.specs.OutcomeTest.Stops.{IsProgram};
 ghost use Rattle.outcome_lists.specs.AskedReads.Asking.{IsLook};
-ghost use Rattle.outcome_lists.specs.AskedReads.Program.{IsBounded, inputs_of_lines};
+ghost use Rattle.outcome_lists.specs.AskedReads.Program.{inputs_of_lines};
 ghost use Rattle.outcome_lists.specs.CutPlaces.Places.{found_stop};
 ghost use Rattle.outcome_lists.specs.Explorer.Finding.{IsFound};
 ghost use Rattle.outcome_lists.specs.Explorer.Stopping.{NoneFell};
 ghost use Rattle.program_base.specs.Opening.{opened};
-ghost use Rattle.explore_program.specs.Calls.{AreMountable, IsUnanswered};
+ghost use Rattle.explore_program.specs.Calls.{AreCommands, AreMountable, IsUnanswered};
+ghost use Rattle.explore_program.specs.Showing.{begun_at};
 
-use crate::laws::images_begin;
+use crate::beginning::begin;
 use crate::stop::Stop;
+use exploration::Exploration;
 use image_file::Image;
 use line_device::LineDevice;
 use outcome_lists::exploring::{Found, explore};
 use outcome_lists::reads_asked::Question;
-use program_base::start;
-use script_text::Command;
 use std::alloc::Global;
 
 /// The first place of a cut in the program after which the question's look may show what it asks for, and what is kept then.
 pub fn find<D: LineDevice>(
     alloc: Global,
     image: &Image,
-    program: &[Option<Command>],
+    exploration: &Exploration,
     question: &Question,
     device: &mut D,
 ) -> Result<Option<Found>, Stop>
     requires image { AreMountable image.now.lines.items }
-    requires program { IsProgram (inputs_of_lines program.now) }
-    requires bounded { All IsBounded program.now }
+    requires first { AreCommands exploration.now.first.items }
+    requires program { AreCommands exploration.now.program.items }
     ensures found { (look : List Seen) → IsLook look question.now
-        → IfOk result (IsFound look (found_stop (opened image.now.lines.items) (inputs_of_lines program.now) look)) }
+        → IfOk result (IsFound look
+        (found_stop (begun_at (opened image.now.lines.items) (inputs_of_lines exploration.now.first.items)) (inputs_of_lines exploration.now.program.items) look)) }
     ensures cause { (counted counts : ℕ) → IfErr result (λ stop. IsUnanswered stop counted counts (D.state device.old).panel (D.state device.new).panel) }
     ensures counts { OnOk result (NoneFell (D.state device.old).panel (D.state device.new).panel) }
 {
-    // What the question before armed is not armed in this one's run.
-    device.disarm();
-    images_begin();
-    let mut host = start(alloc, device, image)?;
-    Ok(explore(alloc, &mut host, device, program, question)?)
+    let mut host = begin(alloc, image, device)?;
+    let first = &exploration.first;
+    let program = &exploration.program;
+    Ok(explore(alloc, &mut host, device, first, program, question)?)
 }

@@ -1,18 +1,16 @@
 // A form in which a script may ask for what its look may find.
-ghost use Rattle.std.specs.Prelude.{◌≡◌, ℕ, All, IfErr, IfOk, OnOk};
+ghost use Rattle.std.specs.Prelude.{◌≡◌, ℕ, IfErr, IfOk, OnOk};
 ghost use Rattle.outcome_lists.specs.MachineModel.Machine.{Machine};
 ghost use Rattle.outcome_lists.specs.MachineHost.Settling.{GoesOn};
 ghost use Rattle.outcome_lists.specs.MachineHost.Stands.{Stands};
-ghost use Rattle.outcome_lists.specs.OutcomeTest.Finds.{armed};
-ghost use Rattle.outcome_lists.specs.OutcomeTest.Stops.{IsProgram};
-ghost use Rattle.outcome_lists.specs.AskedReads.Program.{IsBounded, inputs_of_lines};
+ghost use Rattle.outcome_lists.specs.AskedReads.Program.{inputs_of_lines};
 ghost use Rattle.outcome_lists.specs.Explorer.Starting.{Begins};
 ghost use Rattle.outcome_lists.specs.Explorer.Stopping.{DeviceStopped, NoneFell};
 ghost use Rattle.program_base.specs.Opening.{opened};
-ghost use Rattle.explore_program.specs.Calls.{AreMountable, IsUnanswered};
-ghost use Rattle.explore_program.specs.Showing.{form_text, is_asked};
+ghost use Rattle.explore_program.specs.Calls.{AreCommands, AreMountable, IsUnanswered};
+ghost use Rattle.explore_program.specs.Showing.{begun_at, form_text, is_asked};
 
-use crate::laws::images_begin;
+use crate::beginning::begin;
 use crate::stop::Stop;
 use exploration::Exploration;
 use image_file::Image;
@@ -21,9 +19,6 @@ use nvm_base::Bytes;
 use outcome_lists::exploring::{ExploreFault, tabulate};
 use outcome_lists::host::Host;
 use outcome_lists::list_outcomes;
-use outcome_lists::reads_asked::Read;
-use program_base::start;
-use script_text::Command;
 use std::alloc::Global;
 
 #[derive(Clone, Copy, Debug, PartialEq, Eq)]
@@ -38,22 +33,20 @@ pub enum Form {
 pub fn make<D: LineDevice>(
     alloc: Global,
     image: &Image,
-    program: &[Option<Command>],
-    reads: &[Read],
+    exploration: &Exploration,
     form: Form,
     device: &mut D,
 ) -> Result<Bytes, Stop>
     requires image { AreMountable image.now.lines.items }
-    requires program { IsProgram (inputs_of_lines program.now) }
-    requires bounded { All IsBounded program.now }
-    ensures text { IfOk result (λ text. text.items ≡ form_text form (armed (opened image.now.lines.items)) (inputs_of_lines program.now) reads.now) }
+    requires first { AreCommands exploration.now.first.items }
+    requires program { AreCommands exploration.now.program.items }
+    ensures text { IfOk result (λ text. text.items
+        ≡ form_text form (begun_at (opened image.now.lines.items) (inputs_of_lines exploration.now.first.items)) (inputs_of_lines exploration.now.program.items) exploration.now.reads.items) }
     ensures cause { (counted counts : ℕ) → IfErr result (λ stop. IsUnanswered stop counted counts (D.state device.old).panel (D.state device.new).panel) }
     ensures counts { OnOk result (NoneFell (D.state device.old).panel (D.state device.new).panel) }
 {
-    device.disarm();
-    images_begin();
-    let mut host = start(alloc, device, image)?;
-    Ok(form.make(alloc, &mut host, device, program, reads)?)
+    let mut host = begin(alloc, image, device)?;
+    Ok(form.make(alloc, &mut host, device, exploration)?)
 }
 
 impl Form {
@@ -71,21 +64,24 @@ impl Form {
         alloc: Global,
         host: &mut Host,
         device: &mut D,
-        program: &[Option<Command>],
-        reads: &[Read],
+        exploration: &Exploration,
     ) -> Result<Bytes, ExploreFault>
         requires known { GoesOn host.old (D.state device.old) }
-        requires program { IsProgram (inputs_of_lines program.now) }
-        requires bounded { All IsBounded program.now }
+        requires first { AreCommands exploration.now.first.items }
+        requires program { AreCommands exploration.now.program.items }
         ensures text { (h : Machine) → Stands host.old (D.state device.old) h → Begins h
-            → IfOk result (λ text. text.items ≡ form_text self (armed h) (inputs_of_lines program.now) reads.now) }
+            → IfOk result (λ text. text.items
+            ≡ form_text self (begun_at h (inputs_of_lines exploration.now.first.items)) (inputs_of_lines exploration.now.program.items) exploration.now.reads.items) }
         ensures counts { OnOk result (NoneFell (D.state device.old).panel (D.state device.new).panel) }
         ensures cause { (h : Machine) → Stands host.old (D.state device.old) h → Begins h
             → IfErr result (λ fault. fault ≡ ExploreFault.Device → DeviceStopped (D.state device.old).panel (D.state device.new).panel) }
     {
+        let first = &exploration.first;
+        let program = &exploration.program;
+        let reads = &exploration.reads;
         match self {
-            Form::Table => tabulate(alloc, host, device, program, reads),
-            Form::List => list_outcomes(alloc, host, device, program, reads),
+            Form::Table => tabulate(alloc, host, device, first, program, reads),
+            Form::List => list_outcomes(alloc, host, device, first, program, reads),
         }
     }
 }

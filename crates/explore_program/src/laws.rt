@@ -8,7 +8,7 @@ ghost use Rattle.exploration.specs.Exploration.{Exploration, script_of};
 ghost use Rattle.exploration.specs.Exploration.Script.{Taken};
 ghost use Rattle.outcome_lists.specs.Explorer.Starting.{Begins};
 ghost use Rattle.program_base.specs.Opening.{opened};
-ghost use Rattle.explore_program.specs.Calls.{AreMountable, AreTheorems};
+ghost use Rattle.explore_program.specs.Calls.{AreMountable, AreTheorems, begun};
 
 use outcome_lists::durable_laws::what_was_made_durable_stays;
 use outcome_lists::runs::{runs_keep_states, scripts_bring_right, the_test_tells_what_is_found};
@@ -28,8 +28,8 @@ pub fn images_begin()
 /// Law: each answer about a script is a theorem about the machine's runs, and so are its table and its list.
 pub fn answers_are_theorems()
     ensures { (lines : List LineState) (geo : Geometry) (script : List ℕ) (e : Exploration) → AreMountable lines
-        → script_of geo script ≡ Taken e → IsProgram (map asks_for e.program)
-        → AreTheorems (opened lines) (map asks_for e.program) }
+        → script_of geo script ≡ Taken e → IsProgram (map asks_for e.first) → IsProgram (map asks_for e.program)
+        → AreTheorems (begun (opened lines) e) (map asks_for e.program) }
 {
     runs_keep_states();
     scripts_bring_right();

@@ -3,9 +3,11 @@
 
 mod answering;
 mod asking;
+mod beginning;
 mod form;
 mod laws;
 mod reading;
+mod refusing;
 mod showing;
 mod stop;
 mod telling;

@@ -1,12 +1,10 @@
 // What the look's reads may find, where the script asks for it: a table of their values, and a list of all outcomes.
-ghost use Rattle.std.specs.Prelude.{◌≡◌, ◌≤◌, ◌++◌, ℕ, All, IfErr, IfOk, OnOk};
-ghost use Rattle.outcome_lists.specs.OutcomeTest.Finds.{armed};
-ghost use Rattle.outcome_lists.specs.OutcomeTest.Stops.{IsProgram};
-ghost use Rattle.outcome_lists.specs.AskedReads.Program.{IsBounded, inputs_of_lines};
+ghost use Rattle.std.specs.Prelude.{◌≡◌, ◌≤◌, ◌++◌, ℕ, IfErr, IfOk, OnOk};
+ghost use Rattle.outcome_lists.specs.AskedReads.Program.{inputs_of_lines};
 ghost use Rattle.outcome_lists.specs.Explorer.Stopping.{NoneFell};
 ghost use Rattle.program_base.specs.Opening.{opened};
-ghost use Rattle.explore_program.specs.Calls.{AreMountable, IsUnanswered, TellsShown};
-ghost use Rattle.explore_program.specs.Showing.{if_asked, is_asked, shown};
+ghost use Rattle.explore_program.specs.Calls.{AreCommands, AreMountable, IsUnanswered, TellsShown};
+ghost use Rattle.explore_program.specs.Showing.{begun_at, if_asked, is_asked, shown};
 
 use crate::form::{Form, make};
 use crate::stop::Stop;
@@ -27,9 +25,9 @@ pub fn show<D: LineDevice, K: Sink>(
     answers: &mut K,
 ) -> Result<(), Stop>
     requires image { AreMountable image.now.lines.items }
-    requires program { IsProgram (inputs_of_lines exploration.now.program.items) }
-    requires bounded { All IsBounded exploration.now.program.items }
-    ensures tells { TellsShown (shown exploration.now.table exploration.now.list (armed (opened image.now.lines.items)) (inputs_of_lines exploration.now.program.items) exploration.now.reads.items)
+    requires first { AreCommands exploration.now.first.items }
+    requires program { AreCommands exploration.now.program.items }
+    ensures tells { TellsShown (shown exploration.now.table exploration.now.list (begun_at (opened image.now.lines.items) (inputs_of_lines exploration.now.first.items)) (inputs_of_lines exploration.now.program.items) exploration.now.reads.items)
         result (K.written answers.old) (K.written answers.new) (K.count answers.old) (K.count answers.new) (D.state device.old).panel (D.state device.new).panel }
     ensures later { K.count answers.old ≤ K.count answers.new }
     ensures counts { OnOk result (NoneFell (D.state device.old).panel (D.state device.new).panel) }
@@ -49,10 +47,10 @@ fn asked<D: LineDevice>(
     device: &mut D,
 ) -> Result<Bytes, Stop>
     requires image { AreMountable image.now.lines.items }
-    requires program { IsProgram (inputs_of_lines exploration.now.program.items) }
-    requires bounded { All IsBounded exploration.now.program.items }
+    requires first { AreCommands exploration.now.first.items }
+    requires program { AreCommands exploration.now.program.items }
     ensures text { IfOk result (λ text. text.items
-        ≡ shown exploration.now.table exploration.now.list (armed (opened image.now.lines.items)) (inputs_of_lines exploration.now.program.items) exploration.now.reads.items) }
+        ≡ shown exploration.now.table exploration.now.list (begun_at (opened image.now.lines.items) (inputs_of_lines exploration.now.first.items)) (inputs_of_lines exploration.now.program.items) exploration.now.reads.items) }
     ensures cause { (counted counts : ℕ) → IfErr result (λ stop. IsUnanswered stop counted counts (D.state device.old).panel (D.state device.new).panel) }
     ensures counts { OnOk result (NoneFell (D.state device.old).panel (D.state device.new).panel) }
 {
@@ -72,18 +70,17 @@ fn add<D: LineDevice>(
     text: &mut Bytes,
 ) -> Result<(), Stop>
     requires image { AreMountable image.now.lines.items }
-    requires program { IsProgram (inputs_of_lines exploration.now.program.items) }
-    requires bounded { All IsBounded exploration.now.program.items }
+    requires first { AreCommands exploration.now.first.items }
+    requires program { AreCommands exploration.now.program.items }
     ensures text { OnOk result (text.new.items ≡ text.old.items
-        ++ if_asked (is_asked form exploration.now.table exploration.now.list) form (armed (opened image.now.lines.items)) (inputs_of_lines exploration.now.program.items) exploration.now.reads.items) }
+        ++ if_asked (is_asked form exploration.now.table exploration.now.list) form (begun_at (opened image.now.lines.items) (inputs_of_lines exploration.now.first.items)) (inputs_of_lines exploration.now.program.items) exploration.now.reads.items) }
     ensures cause { (counted counts : ℕ) → IfErr result (λ stop. IsUnanswered stop counted counts (D.state device.old).panel (D.state device.new).panel) }
     ensures counts { OnOk result (NoneFell (D.state device.old).panel (D.state device.new).panel) }
 {
     if !form.is_asked(exploration) {
         return Ok(());
     }
-    let program = &exploration.program;
-    let made = make(alloc, image, program, &exploration.reads, form, device)?;
+    let made = make(alloc, image, exploration, form, device)?;
     text.extend(made.as_slice())?;
     Ok(())
 }

@@ -1,9 +1,10 @@
-// The line that answers a question.
+// The line that answers a question, and whether the answer is the one that is wanted.
 ghost use Rattle.std.specs.Prelude.{◌≡◌, IfOk, List};
 ghost use Rattle.outcome_lists.specs.OutcomeTest.Seen.{Seen};
 ghost use Rattle.outcome_lists.specs.AskedReads.Asking.{IsLook};
-ghost use Rattle.explore_program.specs.Telling.{answer_line};
+ghost use Rattle.explore_program.specs.Telling.{answer_line, is_missed};
 
+use exploration::Wanted;
 use nvm_base::Bytes;
 use outcome_lists::exploring::Found;
 use outcome_lists::print_place;
@@ -30,4 +31,14 @@ pub fn answer_line(
     line.extend(kept.as_slice())?;
     line.push(b'\n')?;
     Ok(line)
+}
+
+/// Whether a question is answered otherwise than it is to be.
+pub fn is_missed(wanted: Wanted, found: &Option<Found>) -> bool
+    ensures { result ≡ is_missed wanted found.now }
+{
+    match wanted {
+        Wanted::Never => found.is_some(),
+        Wanted::May => found.is_none(),
+    }
 }

@@ -11,6 +11,7 @@ ghost use Rattle.explore_program.specs.declared.stop.Stop.{Stop as Early};
 use crate::answering::answer_all;
 use crate::laws::answers_are_theorems;
 use crate::reading::read_all;
+use crate::refusing::report;
 use crate::showing::show;
 use crate::stop::Stop;
 use exploration::read_script;
@@ -19,7 +20,7 @@ use line_device::LineDevice;
 use program_base::{fetch, start};
 use std::alloc::Global;
 
-/// Answers the questions of a script about an image, and returns with which status the program ends.
+/// Answers the questions of a script about an image, and returns the program's exit status.
 pub fn nvmexplore<D: LineDevice, F: Images, T: Source, K: Sink>(
     alloc: Global,
     words: &[String],
@@ -109,6 +110,8 @@ fn answer_script<D: LineDevice, F: Images, T: Source, K: Sink>(
     let text = read_all(alloc, script)?;
     let exploration = read_script(alloc, host.geometry(), text.as_slice())?;
     answers_are_theorems();
+    let refused = report(alloc, &image, &exploration, device, answers)?;
     show(alloc, &image, &exploration, device, answers)?;
-    answer_all(alloc, &image, &exploration, device, answers)
+    let missed = answer_all(alloc, &image, &exploration, device, answers)?;
+    Ok(refused || missed)
 }
