@@ -1,21 +1,16 @@
 -- A program is followed, line by line, with what is looked at.
-use Rattle.std.proofs.Common.{◌≡◌, ◌+◌, ◌<◌, ◌≤◌, ℕ, suc, Bool, false, IsTrue, true, Option, Some, None, List, [], ◌∷◌, ◌++◌, length, drop, drop-cons, get_or, map, refl, sym, ap, subst, ◌∙◌, append_assoc, arith}
+use Rattle.std.proofs.Common.{◌≡◌, ◌+◌, ◌<◌, ◌≤◌, ℕ, suc, Bool, false, Option, Some, None, List, [], ◌∷◌, ◌++◌, length, drop, drop-cons, get_or, sym, ap, subst, ◌∙◌, append_assoc, arith}
 use Rattle.std.specs.Option.{is_none}
 use Rattle.std.proofs.lemmas.List.{drop_all}
 use Rattle.word_tables.specs.declared.geometry.Geometry.{Geometry}
 use Rattle.script_text.specs.declared.command.Command.{Command}
-use Rattle.script_text.specs.Action.{Action, action_of}
-use Rattle.reply_text.specs.Answer.{Answer}
+use Rattle.script_text.specs.Action.{action_of}
 use Rattle.explorer.specs.MachineModel.Machine.{Machine}
-use Rattle.explorer.specs.MachineModel.Commands.{fate, meaning, refusal, unless_refused}
-use Rattle.explorer.specs.Outcomes.Stops.{is_of_program, led_to}
+use Rattle.explorer.specs.MachineModel.Commands.{fate, refusal}
+use Rattle.explorer.specs.Outcomes.Stops.{led_to}
 use Rattle.explorer.specs.CutPlaces.declared.sight.Sight.{Sight}
-use Rattle.explorer.specs.CutPlaces.Following.{AreDone, Follows, IsWithin}
-use Rattle.explorer.specs.CutPlaces.Sights.{files_once_done}
+use Rattle.explorer.specs.CutPlaces.Following.{AreDone, Follows}
 use Rattle.explorer.proofs.CutPlaces.GoingLemmas.{at_line}
-use Rattle.explorer.proofs.CutPlaces.StepLemmas.{ready_after, sees_after}
-use Rattle.explorer.specs.SightsSeen.Units.{block_once_done, line_once_done}
-use Rattle.explorer.proofs.SightsSeen.SizeLemmas.{geometry_stays}
 use Rattle.outcome_lists.proofs.MappedLemmas.{suc_is}
 
 -- The state before a line, which is followed; so much is told of it and of the lines from this one on.
