@@ -49,4 +49,3 @@ pub mod ToldLemmas
 pub mod OrderLemmas
 pub mod FoundLemmas
 pub mod WithinLemmas
-pub mod WeakerLemmas

@@ -148,23 +148,28 @@ behind_shown table front tell asked (Err stop) old mid new a b c began at end wr
   },
 )
 
+-- and behind nothing else
+pub behind_first : (table : List ℕ) (tell : List Seen → Option Place) (asked : List Asked) (result : Result Bool Stop) (old mid new : Option (List ℕ)) (a b c : ℕ) (began at end : Panel)
+    → Appends old mid table → a ≤ b → NoneFell began at → AnswersAll [] tell asked result mid new b c at end → AnswersAll table tell asked result old new a c began end
+behind_first table tell asked result old mid new a b c began at end wrote later fell told =
+    subst (λ front. AnswersAll front tell asked result old new a c began end) (append-nil table) (behind_shown table [] tell asked result old mid new a b c began at end wrote later fell told)
+
 -- and none, where not all of what comes first was written
-pub no_shown : {A : Type 0} (table rest : List ℕ) (tell : List Seen → Option Place) (asked : List Asked) (result : Result A Stop) (stop : Stop) (old new : Option (List ℕ)) (a c : ℕ) (began end : Panel)
-    → result ≡ Err stop → TellsShown table result old new a c began end → AnswersAll (table ++ rest) tell asked (Err stop) old new a c began end
-no_shown table rest tell asked result stop old new a c began end failed says =
-    let told = subst (λ r. TellsShown table r old new a c began end) failed says in (
-      told.0,
-      [],
-      record { first = []; later = asked; joined = refl; answered = refl },
-      record {
-        part = told.1.part;
-        front = record {
-          rest = told.1.front.rest ++ rest;
-          joined = sym (append_assoc told.1.part told.1.front.rest rest) ∙ ap (λ t. t ++ rest) told.1.front.joined ∙ sym (append-nil (table ++ rest));
-        };
-        wrote = told.1.wrote;
-      },
-    )
+pub no_shown : (table rest : List ℕ) (tell : List Seen → Option Place) (asked : List Asked) (stop : Stop) (old new : Option (List ℕ)) (a c : ℕ) (began end : Panel)
+    → IsUnanswered stop a c began end × WritesFront table old new → AnswersAll (table ++ rest) tell asked (Err stop) old new a c began end
+no_shown table rest tell asked stop old new a c began end told = (
+  told.0,
+  [],
+  record { first = []; later = asked; joined = refl; answered = refl },
+  record {
+    part = told.1.part;
+    front = record {
+      rest = told.1.front.rest ++ rest;
+      joined = sym (append_assoc told.1.part told.1.front.rest rest) ∙ ap (λ t. t ++ rest) told.1.front.joined ∙ sym (append-nil (table ++ rest));
+    };
+    wrote = told.1.wrote;
+  },
+)
 
 -- the call's result, by whether refusals were reported
 abbrev pub ended : Bool → Result Bool Stop → Result Bool Stop

@@ -4,6 +4,6 @@ use Rattle.program_base.specs.Opening.{opened}
 use Rattle.explore_program.proofs.AnswerLemmas.{Goes}
 use Rattle.explore_program.proofs.answering.answer_all.Given as goal
 
-abbrev pub invariant-loop-question : goal.invariant-loop-question
-invariant-loop-question g l = Goes (found_stop (opened l.image.lines.items) (inputs_of_lines l.exploration.program.items)) l.exploration.questions.items l.question-index l.may
+abbrev pub invariant-loop-asking : goal.invariant-loop-asking
+invariant-loop-asking g l = Goes (found_stop (opened l.image.lines.items) (inputs_of_lines l.exploration.program.items)) l.exploration.questions.items l.asking-index l.may
     (g.K.Sink.written l.fn.answers) (g.K.Sink.written l.answers) (g.K.Sink.count l.fn.answers) (g.K.Sink.count l.answers) (g.D.Lines.state l.fn.device).panel (g.D.Lines.state l.device).panel
