@@ -63,7 +63,7 @@ kept_found : (h : Machine) (program : List Input) (look : List Seen) (stop : Opt
     → may_find h program (look ++ told found.kept) ≡ true
 kept_found h program look None found at is = absurd is
 kept_found h program look (Some stop) found at is =
-    sym (found_may h program (look ++ told found.kept)) ∙ found_first (may_show look) (cut_places 1 (armed h) program) stop at (may_show (look ++ told found.kept)) is.1
+    sym (found_may h program (look ++ told found.kept)) ∙ found_first (may_show look) (cut_places 1 (armed h) program) stop at (may_show (look ++ told found.kept)) is.1.shown
 
 -- so each answer is a theorem about the machine's runs
 pub are_theorems : (h : Machine) (program : List Input) → ((look : List Seen) → (may_find h program look ≡ true → Finds h program look) × (Finds h program look → may_find h program look ≡ true))

@@ -101,7 +101,7 @@ module _ (B : Action → Type 0) where
   bring-kind Ends question input right is = tt
 
   -- what lines bring that are taken
-  Brings : List ProgramLine → Type 0
+  abbrev Brings : List ProgramLine → Type 0
   Brings lines = AllBring B (map (λ line. asks_for (action_in line)) lines)
 
   -- one more
@@ -129,13 +129,13 @@ module _ (B : Action → Type 0) where
 
   parts_bring : (before : List ProgramLine) (lines : List (List ℕ)) (parts : Parts) → parts_from before lines ≡ Ok parts → Brings before → AllBring B (inputs_of lines) → Brings parts.lines
   parts_bring before [] parts is right rest = absurd (cc is)
-  parts_bring before (line ∷ lines) parts is right rest = by_line (program_line line) refl is
+  parts_bring before (line ∷ lines) parts is right rest =
+      by_line (λ taken more others. parts_bring (before ++ taken ∷ []) lines parts others more (bring-rest (line_input line) (inputs_of lines) rest)) (program_line line) refl is
     where
-      by_line : (o : Result ProgramLine Reason) → program_line line ≡ o → go_on (length before + 1) (part_by before lines (λ more. parts_from more lines)) (placed_line before lines o) ≡ Ok parts → Brings parts.lines
-      by_line (Err why) told next = absurd (cc next)
-      by_line (Ok of) told next =
-          placed_bring before lines parts of right (bring-kind of (question_line line) (line_input line) (bring-first (line_input line) (inputs_of lines) rest) told)
-          (λ taken more others. parts_bring (before ++ taken ∷ []) lines parts others more (bring-rest (line_input line) (inputs_of lines) rest)) next
+      by_line : ((taken : ProgramLine) → Brings (before ++ taken ∷ []) → parts_from (before ++ taken ∷ []) lines ≡ Ok parts → Brings parts.lines) → (o : Result ProgramLine Reason) → program_line line ≡ o → go_on (length before + 1) (part_by before lines (λ more. parts_from more lines)) (placed_line before lines o) ≡ Ok parts → Brings parts.lines
+      by_line others (Err why) told next = absurd (cc next)
+      by_line others (Ok of) told next =
+          placed_bring before lines parts of right (bring-kind of (question_line line) (line_input line) (bring-first (line_input line) (inputs_of lines) rest) told) others next
 
   -- one item before others, each of which brings what is right
   bring-item : (item : Option Action) (items : List (Option Action)) → AllBring B (asks_for item ∷ []) → AllBring B (map asks_for items) → AllBring B (map asks_for (item ∷ items))

@@ -19,6 +19,8 @@ use nvm_base::Bytes;
 use outcome_lists::exploring::{ExploreFault, tabulate};
 use outcome_lists::host::Host;
 use outcome_lists::list_outcomes;
+use outcome_lists::reads_asked::Read;
+use script_text::Command;
 use std::alloc::Global;
 
 #[derive(Clone, Copy, Debug, PartialEq, Eq)]
@@ -33,20 +35,22 @@ pub enum Form {
 pub fn make<D: LineDevice>(
     alloc: Global,
     image: &Image,
-    exploration: &Exploration,
+    first: &[Option<Command>],
+    program: &[Option<Command>],
+    reads: &[Read],
     form: Form,
     device: &mut D,
 ) -> Result<Bytes, Stop>
     requires image { AreMountable image.now.lines.items }
-    requires first { AreCommands exploration.now.first.items }
-    requires program { AreCommands exploration.now.program.items }
+    requires first { AreCommands first.now }
+    requires program { AreCommands program.now }
     ensures text { IfOk result (λ text. text.items
-        ≡ form_text form (begun_at (opened image.now.lines.items) (inputs_of_lines exploration.now.first.items)) (inputs_of_lines exploration.now.program.items) exploration.now.reads.items) }
+        ≡ form_text form (begun_at (opened image.now.lines.items) (inputs_of_lines first.now)) (inputs_of_lines program.now) reads.now) }
     ensures cause { (counted counts : ℕ) → IfErr result (λ stop. IsUnanswered stop counted counts (D.state device.old).panel (D.state device.new).panel) }
     ensures counts { OnOk result (NoneFell (D.state device.old).panel (D.state device.new).panel) }
 {
     let mut host = begin(alloc, image, device)?;
-    Ok(form.make(alloc, &mut host, device, exploration)?)
+    Ok(form.make(alloc, &mut host, device, first, program, reads)?)
 }
 
 impl Form {
@@ -64,21 +68,20 @@ impl Form {
         alloc: Global,
         host: &mut Host,
         device: &mut D,
-        exploration: &Exploration,
+        first: &[Option<Command>],
+        program: &[Option<Command>],
+        reads: &[Read],
     ) -> Result<Bytes, ExploreFault>
         requires known { GoesOn host.old (D.state device.old) }
-        requires first { AreCommands exploration.now.first.items }
-        requires program { AreCommands exploration.now.program.items }
+        requires first { AreCommands first.now }
+        requires program { AreCommands program.now }
         ensures text { (h : Machine) → Stands host.old (D.state device.old) h → Begins h
             → IfOk result (λ text. text.items
-            ≡ form_text self (begun_at h (inputs_of_lines exploration.now.first.items)) (inputs_of_lines exploration.now.program.items) exploration.now.reads.items) }
+            ≡ form_text self (begun_at h (inputs_of_lines first.now)) (inputs_of_lines program.now) reads.now) }
         ensures counts { OnOk result (NoneFell (D.state device.old).panel (D.state device.new).panel) }
         ensures cause { (h : Machine) → Stands host.old (D.state device.old) h → Begins h
             → IfErr result (λ fault. fault ≡ ExploreFault.Device → DeviceStopped (D.state device.old).panel (D.state device.new).panel) }
     {
-        let first = &exploration.first;
-        let program = &exploration.program;
-        let reads = &exploration.reads;
         match self {
             Form::Table => tabulate(alloc, host, device, first, program, reads),
             Form::List => list_outcomes(alloc, host, device, first, program, reads),

@@ -15,6 +15,7 @@ use line_device::LineDevice;
 use nvm_base::Bytes;
 use outcome_lists::exploring::report_refusals;
 use program_base::tell;
+use script_text::Command;
 use std::alloc::Global;
 
 /// Writes a line for each, and returns whether there is one.
@@ -37,7 +38,9 @@ pub fn report<D: LineDevice, K: Sink>(
     ensures later { K.count answers.old ≤ K.count answers.new }
     ensures counts { OnOk result (NoneFell (D.state device.old).panel (D.state device.new).panel) }
 {
-    let text = refused(alloc, image, exploration, device)?;
+    let first = &exploration.first;
+    let program = &exploration.program;
+    let text = refused(alloc, image, first, program, &exploration.refused, device)?;
     if text.is_empty() {
         return Ok(false);
     }
@@ -49,22 +52,21 @@ pub fn report<D: LineDevice, K: Sink>(
 fn refused<D: LineDevice>(
     alloc: Global,
     image: &Image,
-    exploration: &Exploration,
+    first: &[Option<Command>],
+    program: &[Option<Command>],
+    wanted: &[bool],
     device: &mut D,
 ) -> Result<Bytes, Stop>
     requires image { AreMountable image.now.lines.items }
-    requires first { AreCommands exploration.now.first.items }
-    requires first_marks { length exploration.now.first.items ≤ length exploration.now.refused.items }
-    requires program { AreCommands exploration.now.program.items }
-    requires marks { length exploration.now.program.items ≤ length exploration.now.refused.items }
+    requires first { AreCommands first.now }
+    requires first_marks { length first.now ≤ length wanted.now }
+    requires program { AreCommands program.now }
+    requires marks { length program.now ≤ length wanted.now }
     ensures text { IfOk result (λ text. text.items
-        ≡ refusals (opened image.now.lines.items) (inputs_of_lines exploration.now.first.items) (inputs_of_lines exploration.now.program.items) exploration.now.refused.items) }
+        ≡ refusals (opened image.now.lines.items) (inputs_of_lines first.now) (inputs_of_lines program.now) wanted.now) }
     ensures cause { (counted counts : ℕ) → IfErr result (λ stop. IsUnanswered stop counted counts (D.state device.old).panel (D.state device.new).panel) }
     ensures counts { OnOk result (NoneFell (D.state device.old).panel (D.state device.new).panel) }
 {
     let mut host = begin(alloc, image, device)?;
-    let first = &exploration.first;
-    let program = &exploration.program;
-    let wanted = &exploration.refused;
     Ok(report_refusals(alloc, &mut host, device, first, program, wanted)?)
 }

@@ -80,7 +80,17 @@ fn add<D: LineDevice>(
     if !form.is_asked(exploration) {
         return Ok(());
     }
-    let made = make(alloc, image, exploration, form, device)?;
+    let first = &exploration.first;
+    let program = &exploration.program;
+    let made = make(
+        alloc,
+        image,
+        first,
+        program,
+        &exploration.reads,
+        form,
+        device,
+    )?;
     text.extend(made.as_slice())?;
     Ok(())
 }

@@ -25,7 +25,7 @@ returns-clause-counts g c =
 pub returns-clause-text : goal.returns-clause-text
 returns-clause-text g c =
     let lines = c.args.image.now.lines.items in
-    let first = inputs_of_lines c.args.exploration.now.first.items in
-    c.in_ok-report_refusals.ensures.text (opened lines) c.in_ok-begin.ensures.stands c.in_ok-begin.ensures.begins.ready
-        ∙ ap (λ m. refusals_from 1 (armed (opened lines)) first c.args.exploration.now.refused.items ++ refusals_from 1 m (inputs_of_lines c.args.exploration.now.program.items) c.args.exploration.now.refused.items)
-            (sym (armed_led (opened lines) first c.requires.first.program))
+    let first = inputs_of_lines c.args.first.now in
+    c.in_ok-report_refusals.ensures.text (opened lines) c.in_ok-host.ensures.stands c.in_ok-host.ensures.begins.ready
+    ∙ ap (λ m. refusals_from 1 (armed (opened lines)) first c.args.wanted.now ++ refusals_from 1 m (inputs_of_lines c.args.program.now) c.args.wanted.now)
+    (sym (armed_led (opened lines) first c.requires.first.program))

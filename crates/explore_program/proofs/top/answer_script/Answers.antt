@@ -1,12 +1,13 @@
-use Rattle.std.proofs.Common.{◌≡◌, ◌||◌, ◌++◌, [], Ok, Err, inr, refl, rules, ap, subst, ◌∙◌, append-nil, arith}
+use Rattle.std.proofs.Common.{◌≡◌, ◌||◌, ◌++◌, [], Ok, Err, inr, refl, rules, ap, subst, sym, ◌∙◌, append-nil, arith}
 use Rattle.std.proofs.lemmas.Result.{err_from_is_err_and}
 use Rattle.exploration.specs.Exploration.{script_of}
 use Rattle.exploration.specs.Reading.{ReadsScript}
 use Rattle.program_base.specs.Opening.{opened}
 use Rattle.program_base.specs.World.{world}
 use Rattle.explore_program.proofs.BeginLemmas.{mounted_sizes, mounted_valid}
-use Rattle.explore_program.specs.Calls.{AnswersAll, AreMountable}
+use Rattle.explore_program.specs.Calls.{AnswersAll, AreMountable, Outcome}
 use Rattle.explore_program.proofs.CallLemmas.{behind_first, behind_shown, halts_unread, halts_untaken, no_shown, outcome_read, read_found, read_refused, read_shown}
+use Rattle.explore_program.proofs.top.answer_script.Goals.{then-refused, else-refused}
 use Rattle.explore_program.proofs.top.answer_script.Goals as goal
 
 pub read_script-requires-clause-valid : goal.read_script-requires-clause-valid
@@ -81,7 +82,7 @@ returns-in_err-show g c =
     c.in_ok-refused.ensures.is
     (λ asked ask. subst (λ front. AnswersAll front (read_found (opened lines) x) asked (Err c.in_err-show.field-0.0) old.written new.written old.writes new.writes (g.D.Lines.state c.start.new.device).panel new.device.panel)
     (ap (λ t. read_refused (opened lines) x ++ t) (append-nil (read_shown (opened lines) x)))
-    (behind_shown (read_refused (opened lines) x) _ _ asked (Err c.in_err-show.field-0.0) _ (g.K.Sink.written c.report.new.answers) _ _ (g.K.Sink.count c.report.new.answers) _ _ (g.D.Lines.state c.report.new.device).panel _
+    (behind_shown (read_refused (opened lines) x) (read_shown (opened lines) x ++ []) (read_found (opened lines) x) asked (Err c.in_err-show.field-0.0) old.written (g.K.Sink.written c.report.new.answers) new.written old.writes (g.K.Sink.count c.report.new.answers) new.writes (g.D.Lines.state c.start.new.device).panel (g.D.Lines.state c.report.new.device).panel new.device.panel
     c.in_ok-refused.ensures.tells c.report.ensures.later c.in_ok-refused.ensures.counts
     (no_shown (read_shown (opened lines) x) [] _ asked c.in_err-show.field-0.0 _ _ _ _ _ _ c.in_err-show.ensures.tells))))
 
@@ -105,9 +106,9 @@ returns-in_err-missed g c =
     (record { program = asks.first; bounds = asks.first_bounds }) (record { program = asks.program; bounds = asks.bounds })
     (λ e is first program. c.answers_are_theorems.ensures lines (opened lines).geometry c.in_ok-text.text.items e mountable is first program)
     c.in_ok-refused.ensures.is
-    (λ asked ask. behind_shown (read_refused (opened lines) x) _ _ asked (Err c.in_err-missed.field-0.0) _ (g.K.Sink.written c.report.new.answers) _ _ (g.K.Sink.count c.report.new.answers) _ _ (g.D.Lines.state c.report.new.device).panel _
+    (λ asked ask. behind_shown (read_refused (opened lines) x) (read_shown (opened lines) x) (read_found (opened lines) x) asked (Err c.in_err-missed.field-0.0) old.written (g.K.Sink.written c.report.new.answers) new.written old.writes (g.K.Sink.count c.report.new.answers) new.writes (g.D.Lines.state c.start.new.device).panel (g.D.Lines.state c.report.new.device).panel new.device.panel
     c.in_ok-refused.ensures.tells c.report.ensures.later c.in_ok-refused.ensures.counts
-    (behind_first (read_shown (opened lines) x) _ asked (Err c.in_err-missed.field-0.0) _ (g.K.Sink.written c.show.new.answers) _ _ (g.K.Sink.count c.show.new.answers) _ _ (g.D.Lines.state c.show.new.device).panel _
+    (behind_first (read_shown (opened lines) x) (read_found (opened lines) x) asked (Err c.in_err-missed.field-0.0) (g.K.Sink.written c.report.new.answers) (g.K.Sink.written c.show.new.answers) new.written (g.K.Sink.count c.report.new.answers) (g.K.Sink.count c.show.new.answers) new.writes (g.D.Lines.state c.report.new.device).panel (g.D.Lines.state c.show.new.device).panel new.device.panel
     c.in_ok-show.ensures.tells c.show.ensures.later c.in_ok-show.ensures.counts (c.in_err-missed.ensures asked ask))))
 
 pub returns : goal.returns
@@ -122,15 +123,18 @@ returns g c =
     let opens = c.in_ok-host.ensures.opens in
     let x = c.in_ok-exploration.exploration in
     let asks = c.in_ok-exploration.ensures in
-    let same : c.if-refused.result ≡ (c.in_ok-refused.refused || c.in_ok-missed.missed) = search rules in
-    outcome_read c.args.name.now lines old new fetched.there right (record { held = fetched.held; counts = fetched.counts }) c.in_ok-text.text.items x (Ok c.in_ok-missed.missed) c.in_ok-refused.refused
+    let same : c.if-refused.result ≡ (c.in_ok-refused.refused || c.in_ok-missed.missed) = elim c.if-refused.branch [
+      | then-refused w ↦ w.result-is ∙ w.if-refused.true ∙ sym (ap (λ b. b || c.in_ok-missed.missed) w.if-refused.true)
+      | else-refused w ↦ w.result-is ∙ sym (ap (λ b. b || c.in_ok-missed.missed) w.if-refused.false)
+    ] in
+    subst (λ b. Outcome c.args.name.now (Ok b) old new) (sym same) (outcome_read c.args.name.now lines old new fetched.there right (record { held = fetched.held; counts = fetched.counts }) c.in_ok-text.text.items x (Ok c.in_ok-missed.missed) c.in_ok-refused.refused
     (g.D.Lines.state c.start.new.device).panel (record { setups = opens.setups; faults = opens.faults; cuts = opens.cuts }) text.0 text.1 text.2
     (subst (λ script. ReadsScript (script_of (opened lines).geometry script) (Ok x)) c.as_slice.ensures
     (subst (λ geo. ReadsScript (script_of geo c.as_slice.result.now) (Ok x)) (c.geometry.ensures ∙ mounted_sizes lines c.in_ok-host.host _ _ c.in_ok-host.ensures.mounts) asks.script))
     (record { program = asks.first; bounds = asks.first_bounds }) (record { program = asks.program; bounds = asks.bounds })
     (λ e is first program. c.answers_are_theorems.ensures lines (opened lines).geometry c.in_ok-text.text.items e mountable is first program)
     c.in_ok-refused.ensures.is
-    (λ asked ask. behind_shown (read_refused (opened lines) x) _ _ asked (Ok c.in_ok-missed.missed) _ (g.K.Sink.written c.report.new.answers) _ _ (g.K.Sink.count c.report.new.answers) _ _ (g.D.Lines.state c.report.new.device).panel _
+    (λ asked ask. behind_shown (read_refused (opened lines) x) (read_shown (opened lines) x) (read_found (opened lines) x) asked (Ok c.in_ok-missed.missed) old.written (g.K.Sink.written c.report.new.answers) new.written old.writes (g.K.Sink.count c.report.new.answers) new.writes (g.D.Lines.state c.start.new.device).panel (g.D.Lines.state c.report.new.device).panel new.device.panel
     c.in_ok-refused.ensures.tells c.report.ensures.later c.in_ok-refused.ensures.counts
-    (behind_first (read_shown (opened lines) x) _ asked (Ok c.in_ok-missed.missed) _ (g.K.Sink.written c.show.new.answers) _ _ (g.K.Sink.count c.show.new.answers) _ _ (g.D.Lines.state c.show.new.device).panel _
-    c.in_ok-show.ensures.tells c.show.ensures.later c.in_ok-show.ensures.counts (c.in_ok-missed.ensures asked ask)))
+    (behind_first (read_shown (opened lines) x) (read_found (opened lines) x) asked (Ok c.in_ok-missed.missed) (g.K.Sink.written c.report.new.answers) (g.K.Sink.written c.show.new.answers) new.written (g.K.Sink.count c.report.new.answers) (g.K.Sink.count c.show.new.answers) new.writes (g.D.Lines.state c.report.new.device).panel (g.D.Lines.state c.show.new.device).panel new.device.panel
+    c.in_ok-show.ensures.tells c.show.ensures.later c.in_ok-show.ensures.counts (c.in_ok-missed.ensures asked ask))))
