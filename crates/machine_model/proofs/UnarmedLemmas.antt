@@ -159,7 +159,7 @@ command_performed h action inputs (Works good to) first rest next end un stays t
     by_end (inl whole) =
         let went = subst (λ m. IsPerformed m inputs rest end) whole.1 (more (subst IsUnarmed (sym whole.1) stays)) in
         subst (λ (t : Transcript). after (worked (spending h action) good) (perform to inputs (followed_by t rest).starts) ≡ record { said = followed_by t rest; state = end })
-            (sym (takes.1 ∙ ap (worked (spending h action)) whole.0)) (ap (after (worked (spending h action) good)) went)
+        (sym (takes.1 ∙ ap (worked (spending h action)) whole.0)) (ap (after (worked (spending h action) good)) went)
     by_end (inr cut) = absurd (none_comes h (while_interrupted h action) next cut.0 un refl refl cut.2)
 command_performed h action inputs (Orders order to) first rest next end un stays takes more =
     let went = subst (λ m. IsPerformed m inputs rest end) takes.1 (more (subst IsUnarmed (sym takes.1) stays)) in
@@ -179,7 +179,7 @@ command_performed h action inputs (Restarts choice) first rest next end un stays
     by_end (inl whole) =
         let went = subst (λ m. IsPerformed m inputs rest end) whole.1 (more (subst IsUnarmed (sym whole.1) (stays takes.0.image))) in
         subst (λ (t : Transcript). performed h action (Restarts choice) inputs (followed_by t rest).starts ≡ record { said = followed_by t rest; state = end })
-            (sym (takes.2 ∙ ap (with_start (spending h action) takes.0) whole.0)) (ap (after said) went)
+        (sym (takes.2 ∙ ap (with_start (spending h action) takes.0) whole.0)) (ap (after said) went)
     by_end (inr cut) = absurd (none_comes h to next cut.0 un refl refl cut.2)
 command_performed h action inputs Recovers first rest next end un stays takes more = absurd stays
 
