@@ -1,0 +1,5 @@
+pub mod Lines
+pub mod Refusals
+pub mod Log
+pub mod Writes
+pub mod Left
