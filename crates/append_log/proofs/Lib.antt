@@ -5,3 +5,10 @@ pub mod LogLemmas
 pub mod WriteLemmas
 pub mod AppendLemmas
 pub mod HoldsLemmas
+pub mod CallLemmas
+pub mod RecordLemmas
+pub mod StoredLemmas
+pub mod CheckLemmas
+pub mod OpenLemmas
+pub mod BegunLemmas
+pub mod CountedLemmas

@@ -83,7 +83,7 @@ kept-durable old new (inl same) durable = subst IsDurable (sym same) durable
 kept-durable old new (inr filled) durable = subst IsDurable (sym filled.1) refl
 
 -- what a search of one line finds
-lowest-one : (p : ℕ → Bool) (n : ℕ) (b : Bool) → p n ≡ b → lowest_touched p (64 * n) 64 ≡ cond b (Some n) None
+pub lowest-one : (p : ℕ → Bool) (n : ℕ) (b : Bool) → p n ≡ b → lowest_touched p (64 * n) 64 ≡ cond b (Some n) None
 lowest-one p n b is =
     ap (λ a. option_map (λ k. a + k) (position p (range_with_len a ((64 * n + 64 - 1) / 64 + 1 - a)))) start
     ∙ ap (λ c. option_map (λ k. n + k) (position p (range_with_len n c))) count

@@ -30,7 +30,7 @@ numbered-more f n (suc count) =
     rw (more, e) (ap (λ xs. f n ∷ xs) (numbered-more f (suc n) count))
 
 -- the records of pages, from line 1 on
-pub records : List Page → ℕ → List (Option (List ℕ))
+unfoldable pub records : List Page → ℕ → List (Option (List ℕ))
 records pages count = list_from (λ n. entry_in (cell_of pages n)) 1 count
 
 -- A log is as many records as line 0 has.

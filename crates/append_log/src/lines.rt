@@ -1,5 +1,5 @@
 // Single lines of the volume: loaded, tested for their marks, and written durably.
-ghost use Rattle.std.specs.Prelude.{◌≡◌, ◌*◌, ◌<◌, ◌⊎◌, IfOk, IsTrue, List, None, OnOk, Some, length};
+ghost use Rattle.std.specs.Prelude.{◌≡◌, ◌*◌, ◌<◌, IfOk, IsTrue, List, None, OnOk, Some, length, slice_index, ℕ};
 ghost use Rattle.line_device.specs.Medium.{WritesBack};
 ghost use Rattle.line_words.specs.Told.{Answers, Checks, OnRefused, OnWorked, is_done, outcome_by};
 ghost use Rattle.nvm_model.specs.Page.{Page, cell_of};
@@ -85,6 +85,8 @@ pub(crate) fn write_line<L: Lines>(
     ensures outside { WritesBackOthers (IsOfVolume volume.old.geo) (L.state dev.old).medium (L.state dev.new).medium }
     ensures serves { IsTrue volume.new.settled → VolumeServes volume.new (L.state dev.new).medium }
     ensures object { (volume.new.geo ≡ volume.old.geo) × (volume.new.settled ≡ is_done (outcome_by volume_says result)) }
+    ensures on { OnOk result (IsTrue (L.state dev.new).panel.power) }
+    ensures bytes { (k : ℕ) → slice_index bytes.now k < 256 }
 {
     let start = LINE * line;
     volume.store(dev, start, bytes)?;

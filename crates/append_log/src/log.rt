@@ -1,6 +1,6 @@
 ghost use Rattle.std.specs.Prelude.{◌≡◌, ◌⊎◌, ◌+◌, ◌*◌, ◌<◌, ◌≤◌, ◌∷◌, ◌++◌, [], ℕ, IfOk, IsTrue, List, None, OnOk, Option, Some, length, option_map, slice_get};
 ghost use Rattle.line_device.specs.Medium.{WritesBack};
-ghost use Rattle.line_words.specs.Told.{Answers, Checks, OnRefused, OnWorked, is_done, outcome_by};
+ghost use Rattle.line_words.specs.Told.{Answers, Checks, Finds, OnRefused, OnWorked, is_done, outcome_by};
 ghost use Rattle.nvm_model.specs.Page.{Page, cell_of};
 ghost use Rattle.page_lines.specs.Turns.{WritesBackOthers};
 ghost use Rattle.pm_volume.specs.Area.{IsOfVolume};
@@ -40,7 +40,7 @@ impl AppendLog {
         requires settled { IsTrue volume.settled }
         requires on { IsTrue (L.state dev.old).panel.power }
         ensures refused { (pages : List Page) → VolumeHolds volume (L.state dev.old).medium pages
-            → Answers log_says (open_refusal pages) result }
+            → Finds log_says (open_refusal pages) result }
         ensures ok { IfOk result (λ log. (pages : List Page) → VolumeHolds volume (L.state dev.old).medium pages
             → option_map length (log_of pages) ≡ Some log.len) }
         ensures lines { WritesBack (L.state dev.old).medium (L.state dev.new).medium }
@@ -75,7 +75,7 @@ impl AppendLog {
         requires settled { IsTrue self.old.volume.settled }
         requires on { IsTrue (L.state dev.old).panel.power }
         ensures refused { (pages : List Page) → VolumeHolds self.old.volume (L.state dev.old).medium pages
-            → Answers log_says (get_refusal self.old pages index) result }
+            → Finds log_says (get_refusal self.old pages index) result }
         ensures ok { IfOk result (λ found. (log : List (Option (List ℕ))) → HoldsLog self.old (L.state dev.old).medium log
             → slice_get log index ≡ Some (Some found.items)) }
         ensures lines { WritesBack (L.state dev.old).medium (L.state dev.new).medium }

@@ -6,6 +6,9 @@ use Rattle.append_log.proofs.LogLemmas as four
 use Rattle.append_log.proofs.WriteLemmas as five
 use Rattle.append_log.proofs.AppendLemmas as six
 use Rattle.append_log.proofs.HoldsLemmas as seven
+use Rattle.append_log.proofs.CallLemmas as eight
+use Rattle.append_log.proofs.BegunLemmas as nine
+use Rattle.append_log.proofs.CountedLemmas as ten
 use Rattle.append_log.proofs.scratch.try_lemmas.Goals as goal
 
 pub returns-clause-a : goal.returns-clause-a
