@@ -12,3 +12,4 @@ pub mod CheckLemmas
 pub mod OpenLemmas
 pub mod BegunLemmas
 pub mod CountedLemmas
+pub mod PassLemmas

@@ -8,8 +8,6 @@ mod fault;
 mod lines;
 mod log;
 mod records;
-mod scratch;
-pub use scratch::try_lemmas;
 
 pub use fault::LogFault;
 pub use log::AppendLog;
