@@ -1,19 +1,19 @@
 -- An append, in two writes: what stands after it, and what a cut leaves.
-use Rattle.std.proofs.Common.{◌≡◌, ◌⊎◌, inl, inr, ℕ, ◌+◌, ◌*◌, ◌<◌, ◌≤◌, false, Option, Some, None, option_map, option_and_then, List, [], ◌∷◌, ◌++◌, length, get_or, refl, sym, ap, subst, ◌∙◌, arith}
+use Rattle.std.proofs.Common.{◌≡◌, ◌⊎◌, inl, inr, ℕ, ◌+◌, ◌*◌, ◌<◌, ◌≤◌, Option, Some, option_map, option_and_then, List, [], ◌∷◌, ◌++◌, length, get_or, ap, subst, ◌∙◌, arith}
 use Rattle.std.proofs.lemmas.Bool.{cases_lt}
 use Rattle.line_device.specs.Medium.{Medium}
 use Rattle.line_device.specs.Word.{word_at}
-use Rattle.nvm_model.specs.Cell.{Cell}
 use Rattle.nvm_model.specs.Page.{Page, PagesStand, cell_of, fill}
-use Rattle.append_log.specs.Left.{IsDurable, IsKeptLine, MayLeave}
-use Rattle.append_log.specs.Lines.{count_in, entry_in, line_in, record_of}
+use Rattle.pm_volume.specs.Left.{IsDurable, IsKeptLine, MayLeave}
+use Rattle.pm_volume.specs.Line.{line_in}
+use Rattle.append_log.specs.Lines.{entry_in, record_of}
 use Rattle.append_log.specs.Log.{LogStands}
-use Rattle.append_log.specs.Writes.{MayWrite, written_line}
-use Rattle.append_log.proofs.LeftLemmas.{has_words}
-use Rattle.append_log.proofs.LineLemmas.{IsStrong, kept-durable, kept-reads, stored-strong, written-durable, written-reads}
-use Rattle.append_log.proofs.LogLemmas.{log-counted, stands-counted, stands-kept, stands-left, stands-more}
-use Rattle.append_log.proofs.RestartLemmas.{restart-durable, restart-keeps}
-use Rattle.append_log.proofs.WriteLemmas.{length-left, length-may_write, length-written, may_write-count, may_write-keeps, written-keeps}
+use Rattle.pm_volume.specs.Line.{MayWrite, written_line}
+use Rattle.pm_volume.proofs.LeftLemmas.{has_words}
+use Rattle.pm_volume.proofs.LineLemmas.{IsStrong, kept-durable, kept-reads, stored-strong, written-durable, written-reads}
+use Rattle.append_log.proofs.LogLemmas.{stands-counted, stands-kept, stands-left, stands-more}
+use Rattle.pm_volume.proofs.RestartLemmas.{restart-durable, restart-keeps}
+use Rattle.pm_volume.proofs.WriteLemmas.{length-left, length-may_write, length-written, may_write-count, may_write-keeps, written-keeps}
 
 -- before line 0 counts the record, the log is as it was
 module _ (place : ℕ → ℕ) (m : Medium) (pages : List Page) (log : List (Option (List ℕ))) (stand : PagesStand place m pages) (stands : LogStands pages log)

@@ -1,39 +1,38 @@
 -- An append that passed its tests, and whose record is written: what its calls are refused for, and what they leave.
-use Rattle.std.proofs.Common.{◌≡◌, ◌⊎◌, inl, inr, ℕ, zero, suc, ◌+◌, ◌*◌, ◌/◌, ◌<◌, ◌≤◌, true, false, Option, Some, None, option_map, option_and_then, Result, Ok, Err, List, [], ◌∷◌, ◌++◌, length, get_or, slice_get, refl, sym, ap, subst, ◌∙◌, arith}
+use Rattle.std.proofs.Common.{◌≡◌, inl, inr, ℕ, zero, suc, ◌+◌, ◌*◌, ◌/◌, ◌<◌, true, Option, Some, None, option_map, Ok, Err, List, length, get_or, slice_get, refl, sym, ap, subst, ◌∙◌, arith}
 use Rattle.std.proofs.lemmas.Option.{none-some, same_Some}
 use Rattle.line_device.specs.Medium.{Medium}
-use Rattle.line_device.specs.Word.{word_at, word_from}
+use Rattle.line_device.specs.Word.{word_from}
 use Rattle.line_device.proofs.WordLemmas.{word_from-cong}
 use Rattle.line_words.specs.Told.{Answers, Checks}
 use Rattle.line_words.proofs.ToldLemmas.{checks_passed}
-use Rattle.word_tables.specs.declared.geometry.Geometry.{Geometry}
 use Rattle.word_tables.specs.Layout.{volume_line}
-use Rattle.nvm_model.specs.Blocks.{first_there}
-use Rattle.nvm_model.specs.Cell.{Cell, zero_cell}
+use Rattle.nvm_model.specs.Cell.{Cell}
 use Rattle.nvm_model.specs.Page.{Page, cell_of, fill, presence_of}
 use Rattle.nvm_model.proofs.PageLemmas.{page_of_line}
 use Rattle.pm_volume.specs.Images.{EachReadsPages}
-use Rattle.pm_volume.specs.Object.{VolumeHolds, VolumeServes, VolumeState}
-use Rattle.pm_volume.specs.Refusals.{VolumeRefusal, volume_says}
+use Rattle.pm_volume.specs.Object.{VolumeHolds, VolumeState}
+use Rattle.pm_volume.specs.Refusals.{volume_says}
 use Rattle.pm_volume.specs.declared.fault.VolumeFault.{VolumeFault}
 use Rattle.pm_volume.proofs.StoreLemmas.{reads-then}
 use Rattle.append_log.specs.declared.fault.LogFault.{LogFault}
 use Rattle.append_log.specs.declared.fault.LogFault.TheVariants.{Volume}
-use Rattle.append_log.specs.Left.{EachLeft, IsKeptLine}
-use Rattle.append_log.specs.Lines.{count_in, line_bytes, record_of}
+use Rattle.pm_volume.specs.Left.{EachLeft, IsKeptLine, IsSoundLine}
+use Rattle.pm_volume.specs.Line.{line_bytes}
+use Rattle.append_log.specs.Lines.{count_in, record_of}
 use Rattle.append_log.specs.Log.{HoldsLog, LogServes, LogStands, LogState}
-use Rattle.append_log.specs.Refusals.{LogRefusal, append_refusal, check_refusal, log_says, mark_refusal, write_refusal}
+use Rattle.append_log.specs.Refusals.{append_refusal, check_refusal, log_says, write_refusal}
 use Rattle.append_log.specs.Refusals.LogRefusal.{OfVolume}
-use Rattle.append_log.specs.Writes.{MayWrite, written_line}
-use Rattle.append_log.proofs.AppendLemmas.{count-left, count-written, record-left, record-written}
+use Rattle.pm_volume.specs.Line.{MayWrite, written_line}
+use Rattle.append_log.proofs.AppendLemmas.{record-left}
 use Rattle.append_log.proofs.CallLemmas.{answers-passed, answers-second, first-written}
 use Rattle.append_log.proofs.CheckLemmas.{marks-none}
-use Rattle.append_log.proofs.HoldsLemmas.{holds-marked, holds-read, length-holds}
-use Rattle.append_log.proofs.LeftLemmas.{has_words}
-use Rattle.append_log.proofs.LineLemmas.{IsStrong, fill-strong, get-line_bytes, stored-strong, written-durable, written-is, written-reads}
+use Rattle.pm_volume.proofs.HoldsLemmas.{holds-sound, length-holds}
+use Rattle.pm_volume.proofs.LeftLemmas.{has_words}
+use Rattle.pm_volume.proofs.LineLemmas.{IsStrong, fill-strong, get-line_bytes, stored-strong, written-is}
 use Rattle.append_log.proofs.LogLemmas.{log-counted}
-use Rattle.append_log.proofs.StoredLemmas.{shown-hold, shown_pages}
-use Rattle.append_log.proofs.WriteLemmas.{length-written, written-keeps}
+use Rattle.pm_volume.proofs.HoldsLemmas.{shown-hold, shown_pages}
+use Rattle.pm_volume.proofs.WriteLemmas.{written-keeps}
 
 -- the tests went well
 pub record IsTested (s : LogState) (m : Medium) (bytes : List ℕ) : Type 0 where
@@ -58,10 +57,10 @@ module _ (s : LogState) (m : Medium) (bytes : List ℕ) (tested : IsTested s m b
   passed : (pages : List Page) → VolumeHolds s.volume m pages → check_refusal s pages (length bytes) ≡ None
   passed pages holds = checks_passed log_says (check_refusal s pages (length bytes)) tt (tested.checks pages holds)
 
-  pub first-sound : (pages : List Page) → VolumeHolds s.volume m pages → mark_refusal 0 (cell_of pages 0) ≡ None
+  pub first-sound : (pages : List Page) → VolumeHolds s.volume m pages → IsSoundLine (cell_of pages 0)
   first-sound pages holds = (marks-none s pages (length bytes) (passed pages holds)).0
 
-  pub record-sound : (pages : List Page) → VolumeHolds s.volume m pages → mark_refusal (s.len + 1) (cell_of pages (s.len + 1)) ≡ None
+  pub record-sound : (pages : List Page) → VolumeHolds s.volume m pages → IsSoundLine (cell_of pages (s.len + 1))
   record-sound pages holds = (marks-none s pages (length bytes) (passed pages holds)).1
 
   pub record-refused : (S T : Type 0) (f : VolumeFault) → Answers {T = S} volume_says (write_refusal s.volume m (s.len + 1)) (Err f)
@@ -97,16 +96,16 @@ module _ (s : LogState) (v : VolumeState) (m new : Medium) (bytes line : List �
   strong pages holds =
       fill-strong (volume_line s.volume.geo) m pages (s.len + 1) holds.stand (below pages holds) (record-sound s m bytes is.tested pages holds)
 
-  marked-kept : (old after : Option Cell) → IsKeptLine old after → mark_refusal 0 old ≡ None → mark_refusal 0 after ≡ None
-  marked-kept old after (inl same) none = ap (mark_refusal 0) same ∙ none
-  marked-kept old after (inr filled) none = ap (mark_refusal 0) filled.1
+  sound-kept : (old after : Option Cell) → IsKeptLine old after → IsSoundLine old → IsSoundLine after
+  sound-kept old after (inl same) sound = subst IsSoundLine (sym same) sound
+  sound-kept old after (inr filled) sound = subst IsSoundLine (sym filled.1) tt
 
-  pub count-sound : (pages : List Page) → VolumeHolds v new pages → mark_refusal 0 (cell_of pages 0) ≡ None
+  pub count-sound : (pages : List Page) → VolumeHolds v new pages → IsSoundLine (cell_of pages 0)
   count-sound pages holds =
       let shown = shown_pages s.volume m in
       let before = shown-hold s.volume m in
-      holds-marked v new pages (written_line (s.len + 1) line shown) holds (is.held shown before) 0
-      ∙ marked-kept _ _ (kept shown before) (first-sound s m bytes is.tested shown before)
+      holds-sound v new (written_line (s.len + 1) line shown) pages (is.held shown before) holds 0
+      (sound-kept _ _ (kept shown before) (first-sound s m bytes is.tested shown before))
 
   first_there_is : slice_get v.present 0 ≡ Some true
   first_there_is =

@@ -1,18 +1,14 @@
 -- What the volume's refusals say of a call on one line.
-use Rattle.std.proofs.Common.{◌≡◌, ◌⊎◌, inl, inr, ℕ, ◌+◌, ◌*◌, ◌/◌, ◌%◌, ◌&&◌, ◌<◌, ◌≤◌, Bool, true, false, not, cond, Option, Some, None, option_map, Result, Ok, Err, IsTrue, OnOk, List, length, nat_lt, slice_get, refl, sym, ap, subst, ◌∙◌, arith}
-use Rattle.std.proofs.lemmas.Bool.{false≢true, le-ltb}
+use Rattle.std.proofs.Common.{◌≡◌, ℕ, ◌+◌, ◌*◌, ◌/◌, ◌%◌, ◌<◌, Bool, true, false, cond, Option, Some, None, option_map, Result, Ok, Err, IsTrue, OnOk, List, nat_lt, slice_get, refl, sym, ap, subst, ◌∙◌, arith}
 use Rattle.std.proofs.lemmas.Option.{get_or_from_slice_get, none-some}
 use Rattle.line_device.specs.Medium.{Medium}
 use Rattle.line_words.specs.Told.{Answers, Checks, OnRefused, OnWorked, Told, outcome_by, refusal_of}
 use Rattle.line_device.specs.Panel.{Panel, Runs}
 use Rattle.line_words.specs.Told.Told.{Refuses, Starves, Stops}
-use Rattle.word_tables.specs.declared.geometry.Geometry.{Geometry}
-use Rattle.word_tables.specs.Layout.{volume_line}
 use Rattle.nvm_model.specs.Blocks.{first_there}
-use Rattle.nvm_model.specs.Cell.{Cell, CellStands, covers, lowest_touched}
+use Rattle.nvm_model.specs.Cell.{Cell, CellStands}
 use Rattle.nvm_model.specs.Cell.Cell.{Bad, Kept}
-use Rattle.nvm_model.specs.Page.{Page, cell_of, first_bad_line, first_uncovered_line, is_bad_cell, look, presence_of, touches_absent}
-use Rattle.nvm_model.proofs.PageLemmas.{page_of_line}
+use Rattle.nvm_model.specs.Page.{Page, cell_of, is_bad_cell, look}
 use Rattle.nvm_model.proofs.TouchedPageLemmas.{touches_absent-some}
 use Rattle.pm_volume.specs.Object.{VolumeHolds, VolumeState, volume_place}
 use Rattle.pm_volume.specs.Refusals as volume
@@ -25,46 +21,13 @@ use Rattle.append_log.specs.declared.fault.LogFault.{LogFault}
 use Rattle.append_log.specs.declared.fault.LogFault.TheVariants.{Volume}
 use Rattle.append_log.specs.declared.fault.LogFault.TheVariants as of_log
 use Rattle.pm_volume.specs.declared.fault.VolumeFault.TheVariants as fault
-use Rattle.append_log.specs.Lines.{line_bytes, line_in}
+use Rattle.pm_volume.specs.Line.{line_bytes, line_in}
+use Rattle.pm_volume.proofs.LineCallLemmas.{line-refused}
 use Rattle.append_log.specs.Refusals.{LogRefusal, load_refusal, log_says, mark_refusal, passed_on, write_refusal}
 use Rattle.append_log.specs.Refusals.LogRefusal.{OfVolume, Weak}
 use Rattle.std.specs.Result.{IsErrAnd}
 use Rattle.line_words.proofs.ToldLemmas.{answers_on}
-use Rattle.append_log.proofs.LineLemmas.{first_bad-line, line-loaded, line_covered, lowest-one}
-
--- bytes of one line are in range
-in-range : (geo : Geometry) (n : ℕ) → n < 64 * geo.vpages → bytes_refusal geo (64 * n) 64 ≡ None
-in-range geo n within =
-    ap (λ t. first_there (refused_if t Range) (refused_if false Length)) (le-ltb (4096 * geo.vpages) (64 * n + 64) (omega arith))
-
--- a load or a sync of it is refused where it is bad
-pub line-refused : (s : VolumeState) (pages : List Page) (n : ℕ) → n < 64 * s.geo.vpages → volume.load_refusal s pages (64 * n) 64 ≡ load_refusal n (cell_of pages n)
-line-refused s pages n within =
-    ap (λ o. first_there o (poisoned_at (first_bad_line pages (64 * n) 64))) (in-range s.geo n within) ∙ ap poisoned_at (first_bad-line pages n) ∙ by_test (is_bad_cell (cell_of pages n))
-  where
-    by_test : (b : Bool) → poisoned_at (cond b (Some n) None) ≡ refused_if b (Poison (64 * n))
-    by_test true = refl
-    by_test false = refl
-
--- a store over all of it only for the metadata
-uncovered-line : (pages : List Page) (n : ℕ) → first_uncovered_line pages (64 * n) 64 ≡ None
-unfolding first_uncovered_line
-uncovered-line pages n =
-    lowest-one (λ k. is_bad_cell (cell_of pages k) && not (covers (64 * n) 64 k)) n false
-    (ap (λ c. is_bad_cell (cell_of pages n) && not c) (line_covered n) ∙ neither (is_bad_cell (cell_of pages n)))
-  where
-    neither : (b : Bool) → (b && false) ≡ false
-    neither true = refl
-    neither false = refl
-
-pub store-refused : (s : VolumeState) (m : Medium) (pages : List Page) (n : ℕ) → n < 64 * s.geo.vpages → volume.store_refusal s m pages (64 * n) 64 ≡ write_refusal s m n
-store-refused s m pages n within =
-    ap (λ o. first_there o (first_there (write_refusal s m n) (poisoned_at (first_uncovered_line pages (64 * n) 64)))) (in-range s.geo n within)
-    ∙ ap (λ o. first_there (write_refusal s m n) (poisoned_at o)) (uncovered-line pages n) ∙ first (write_refusal s m n)
-  where
-    first : (o : Option VolumeRefusal) → first_there o None ≡ o
-    first None = refl
-    first (Some why) = refl
+use Rattle.pm_volume.proofs.LineLemmas.{line-loaded}
 
 -- what a load that went well gives
 pub loaded : (pages : List Page) (n : ℕ) (bytes : List ℕ) → Answers {T = Unit {0}} volume_says (load_refusal n (cell_of pages n)) (Ok tt) → bytes ≡ look pages (64 * n) 64

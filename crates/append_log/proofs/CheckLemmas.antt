@@ -1,11 +1,14 @@
 -- The tests before an append.
-use Rattle.std.proofs.Common.{◌≡◌, ◌==◌, ℕ, ◌+◌, ◌*◌, ◌≤◌, true, false, nat_lt, Option, Some, None, Result, Ok, Err, IsErrAnd, List, refl, sym, ap, subst, ◌∙◌, arith}
+use Rattle.std.proofs.Common.{◌≡◌, ◌==◌, ℕ, ◌+◌, ◌*◌, ◌≤◌, true, false, Option, Some, None, Result, Ok, Err, IsErrAnd, List, refl, sym, ap, subst, ◌∙◌}
 use Rattle.std.proofs.lemmas.Bool.{le-ltb}
 use Rattle.std.proofs.lemmas.Option.{none-some}
 use Rattle.line_words.specs.Told.{Checks}
 use Rattle.line_words.proofs.ToldLemmas.{checks_passed}
 use Rattle.nvm_model.specs.Blocks.{first_there}
+use Rattle.nvm_model.specs.Cell.{Cell}
+use Rattle.nvm_model.specs.Cell.Cell.{Bad, Kept}
 use Rattle.nvm_model.specs.Page.{Page, cell_of}
+use Rattle.pm_volume.specs.Left.{IsSoundLine}
 use Rattle.append_log.specs.declared.fault.LogFault.{LogFault}
 use Rattle.append_log.specs.Log.{LogState}
 use Rattle.append_log.specs.Refusals.{LogRefusal, check_refusal, log_says, mark_refusal, refused_when}
@@ -42,6 +45,13 @@ both-none : (a b : Option LogRefusal) → first_there a b ≡ None → (a ≡ No
 both-none None b is = (refl, is)
 both-none (Some why) b is = absurd (none-some why (sym is))
 
-pub marks-none : (s : LogState) (pages : List Page) (len : ℕ) → check_refusal s pages len ≡ None
-    → (mark_refusal 0 (cell_of pages 0) ≡ None) × (mark_refusal (s.len + 1) (cell_of pages (s.len + 1)) ≡ None)
-marks-none s pages len is = both-none _ _ (both-none _ _ (both-none _ _ is).1).1
+sound-unmarked : (n : ℕ) (line : Option Cell) → mark_refusal n line ≡ None → IsSoundLine line
+sound-unmarked n None none = tt
+sound-unmarked n (Some Bad) none = absurd (none-some _ (sym none))
+sound-unmarked n (Some (Kept true words)) none = absurd (none-some _ (sym none))
+sound-unmarked n (Some (Kept false words)) none = tt
+
+pub marks-none : (s : LogState) (pages : List Page) (len : ℕ) → check_refusal s pages len ≡ None → IsSoundLine (cell_of pages 0) × IsSoundLine (cell_of pages (s.len + 1))
+marks-none s pages len is =
+    let marks = both-none _ _ (both-none _ _ (both-none _ _ is).1).1 in
+    (sound-unmarked 0 _ marks.0, sound-unmarked (s.len + 1) _ marks.1)

@@ -8,16 +8,16 @@ use Rattle.nvm_model.specs.Page.{Page, cell_of, fill}
 use Rattle.pm_volume.specs.Images.{EachReadsPages}
 use Rattle.pm_volume.specs.Object.{VolumeHolds, VolumeServes, VolumeState}
 use Rattle.pm_volume.proofs.StoreLemmas.{reads-then}
-use Rattle.append_log.specs.Left.{EachLeft, IsDurable}
-use Rattle.append_log.specs.Lines.{count_in, entry_in, record_of}
+use Rattle.pm_volume.specs.Left.{EachLeft, IsDurable}
+use Rattle.append_log.specs.Lines.{entry_in, record_of}
 use Rattle.append_log.specs.Log.{HoldsLog, LogServes, LogStands, LogState}
-use Rattle.append_log.specs.Writes.{MayWrite, written_line}
+use Rattle.pm_volume.specs.Line.{MayWrite, written_line}
 use Rattle.append_log.proofs.AppendLemmas.{count-left, count-written, record-written}
 use Rattle.append_log.proofs.BegunLemmas.{IsRecorded, count-sound, log-length, strong}
-use Rattle.append_log.proofs.HoldsLemmas.{holds-read, length-holds}
-use Rattle.append_log.proofs.LineLemmas.{IsStrong, fill-strong, stored-strong, written-durable, written-reads}
-use Rattle.append_log.proofs.StoredLemmas.{shown-hold, shown_pages}
-use Rattle.append_log.proofs.WriteLemmas.{length-written}
+use Rattle.pm_volume.proofs.HoldsLemmas.{holds-read, length-holds}
+use Rattle.pm_volume.proofs.LineLemmas.{IsStrong, fill-strong, stored-strong, written-durable, written-reads}
+use Rattle.pm_volume.proofs.HoldsLemmas.{shown-hold, shown_pages}
+use Rattle.pm_volume.proofs.WriteLemmas.{length-written}
 
 module _ (s : LogState) (v : VolumeState) (m new : Medium) (bytes line : List ℕ) (is : IsRecorded s v m new bytes line)
     (count : List ℕ) (whole : length count ≡ 64) (small : (k : ℕ) → get_or count k 0 < 256) (counts : word_at count 0 ≡ s.len + 1) where

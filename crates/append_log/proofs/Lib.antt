@@ -1,10 +1,5 @@
-pub mod LeftLemmas
-pub mod RestartLemmas
-pub mod LineLemmas
 pub mod LogLemmas
-pub mod WriteLemmas
 pub mod AppendLemmas
-pub mod HoldsLemmas
 pub mod CallLemmas
 pub mod RecordLemmas
 pub mod StoredLemmas

@@ -1,18 +1,17 @@
 -- The log that pages have, by their lines.
-use Rattle.std.proofs.Common.{◌≡◌, ◌⊎◌, inl, inr, ℕ, zero, suc, ◌+◌, ◌-◌, ◌*◌, ◌<◌, ◌≤◌, Bool, true, false, cond, nat_lt, Option, Some, None, option_map, option_and_then, List, [], ◌∷◌, ◌++◌, length, length-append, slice_get, refl, sym, ap, subst, ◌∙◌, arith}
-use Rattle.std.proofs.lemmas.Bool.{cases_Bool, lt-ltb, ltb-true, false≢true}
+use Rattle.std.proofs.Common.{◌≡◌, inl, ℕ, zero, suc, ◌+◌, ◌*◌, ◌<◌, ◌≤◌, Bool, true, false, cond, nat_lt, Option, Some, None, option_map, option_and_then, List, [], ◌∷◌, ◌++◌, length, length-append, refl, sym, ap, ◌∙◌, arith}
+use Rattle.std.proofs.lemmas.Bool.{lt-ltb, ltb-true}
 use Rattle.std.proofs.lemmas.Option.{none-some, same_Some}
 use Rattle.line_device.specs.Word.{word_at}
-use Rattle.nvm_model.specs.Cell.{Cell}
 use Rattle.nvm_model.specs.Numbered.{list_from}
 use Rattle.nvm_model.specs.Page.{Page, cell_of}
-use Rattle.nvm_model.proofs.NumberedLemmas.{length-list_from, slice_get-list_from}
-use Rattle.append_log.specs.Left.{IsDurable, IsKeptLine, MayLeave}
-use Rattle.append_log.specs.Lines.{count_in, entries, entry_in, line_in, log_of, record_of}
+use Rattle.nvm_model.proofs.NumberedLemmas.{length-list_from}
+use Rattle.pm_volume.specs.Left.{IsDurable, IsKeptLine, MayLeave}
+use Rattle.pm_volume.specs.Line.{line_in}
+use Rattle.append_log.specs.Lines.{count_in, entries, entry_in, log_of, record_of}
 use Rattle.append_log.specs.Log.{LogStands}
-use Rattle.append_log.proofs.LeftLemmas.{same_gets}
-use Rattle.append_log.proofs.LineLemmas.{kept-durable, kept-reads}
-use Rattle.append_log.proofs.RestartLemmas.{restart-durable, restart-keeps}
+use Rattle.pm_volume.proofs.LineLemmas.{kept-durable, kept-reads}
+use Rattle.pm_volume.proofs.RestartLemmas.{restart-keeps}
 
 -- lists by number
 same-numbered : {A : Type 0} (f g : ℕ → A) (n count : ℕ) → ((k : ℕ) → n ≤ k → k < n + count → f k ≡ g k) → list_from f n count ≡ list_from g n count

@@ -1,5 +1,5 @@
 -- What is found where a log is opened, or a record is read.
-use Rattle.std.proofs.Common.{◌≡◌, ℕ, ◌+◌, ◌*◌, ◌<◌, ◌≤◌, Bool, true, false, cond, not, nat_lt, is_none, Option, Some, None, option_map, option_and_then, Result, Ok, Err, IsErrAnd, List, length, slice_get, refl, sym, ap, subst, ◌∙◌, arith}
+use Rattle.std.proofs.Common.{◌≡◌, ℕ, ◌+◌, ◌*◌, ◌<◌, ◌≤◌, Bool, true, false, cond, not, is_none, Option, Some, None, option_map, option_and_then, Result, Ok, Err, IsErrAnd, List, length, slice_get, refl, sym, ap, subst, ◌∙◌, arith}
 use Rattle.std.proofs.lemmas.Bool.{le-ltb, lt-ltb}
 use Rattle.std.proofs.lemmas.Option.{none-some, same_Some}
 use Rattle.line_device.specs.Medium.{Medium, WritesBack}
@@ -19,13 +19,14 @@ use Rattle.pm_volume.specs.declared.fault.VolumeFault.{VolumeFault}
 use Rattle.pm_volume.proofs.ServesLemmas.{holds-same}
 use Rattle.append_log.specs.declared.fault.LogFault.{LogFault}
 use Rattle.append_log.specs.declared.fault.LogFault.TheVariants.{Volume}
-use Rattle.append_log.specs.Lines.{count_in, entries, entry_in, line_bytes, line_in, log_of, record_of}
+use Rattle.pm_volume.specs.Line.{line_bytes, line_in}
+use Rattle.append_log.specs.Lines.{count_in, entries, entry_in, log_of, record_of}
 use Rattle.append_log.specs.Log.{HoldsLog, LogServes, LogState}
 use Rattle.append_log.specs.Refusals.{LogRefusal, get_refusal, load_refusal, log_says, open_refusal, passed_on, refused_when}
 use Rattle.append_log.specs.Refusals.LogRefusal.{NoRecord, OfVolume, Wrong}
-use Rattle.append_log.proofs.HoldsLemmas.{holds-read, length-holds}
+use Rattle.pm_volume.proofs.HoldsLemmas.{holds-read}
 use Rattle.append_log.proofs.LogLemmas.{log-counted, log-of_count, records}
-use Rattle.append_log.proofs.StoredLemmas.{shown-hold, shown_pages}
+use Rattle.pm_volume.proofs.HoldsLemmas.{shown-hold, shown_pages}
 
 -- a refusal of the volume is the one that is found, whatever else is sought after it
 module _ (why : Option VolumeRefusal) (rest : Option LogRefusal) where

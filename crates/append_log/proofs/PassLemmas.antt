@@ -1,8 +1,7 @@
 -- What a fault of the volume tells, as it is handed on.
-use Rattle.std.proofs.Common.{◌≡◌, true, Option, Some, None, Result, Ok, Err, IsErrAnd, option_map, refl, sym, ap, subst, ◌∙◌}
+use Rattle.std.proofs.Common.{◌≡◌, true, Option, Some, None, Result, Ok, Err, IsErrAnd, refl, sym, ap, subst, ◌∙◌}
 use Rattle.line_words.specs.Told.{Answers, Checks, OnRefused, OnWorked, Told, is_done, outcome_by, refusal_of, told_outcome}
 use Rattle.line_words.specs.Told.Told.{Refuses, Starves, Stops}
-use Rattle.line_words.proofs.ToldLemmas.{answers_on}
 use Rattle.pm_volume.specs.Refusals.{VolumeRefusal, volume_says}
 use Rattle.pm_volume.specs.declared.fault.VolumeFault.{VolumeFault}
 use Rattle.pm_volume.specs.declared.fault.VolumeFault.TheVariants as fault
@@ -11,7 +10,6 @@ use Rattle.append_log.specs.declared.fault.LogFault.{LogFault}
 use Rattle.append_log.specs.declared.fault.LogFault.TheVariants.{Volume}
 use Rattle.append_log.specs.Refusals.{LogRefusal, log_says, passed_on}
 use Rattle.append_log.specs.Refusals.LogRefusal.{OfVolume}
-use Rattle.append_log.proofs.CallLemmas.{log-passed}
 
 -- a stop is no refusal, and a refusal no stop
 stop-back : (told : Told VolumeRefusal) → refusal_of (passed_on told) ≡ None → refusal_of told ≡ None

@@ -1,14 +1,12 @@
 -- A line stored and then synced.
-use Rattle.std.proofs.Common.{◌≡◌, inl, inr, ℕ, ◌*◌, ◌<◌, Option, Some, None, Result, Ok, OnOk, List, length, refl, sym, ap, subst, ◌∙◌, arith}
+use Rattle.std.proofs.Common.{◌≡◌, inr, ℕ, ◌*◌, ◌<◌, Option, None, Result, OnOk, List, length, ap, subst, ◌∙◌, arith}
 use Rattle.line_device.specs.Medium.{Medium}
 use Rattle.line_words.specs.Told.{Answers, OnWorked}
 use Rattle.line_words.proofs.ToldLemmas.{on_worked-then}
 use Rattle.word_tables.specs.declared.geometry.Geometry.{Geometry}
 use Rattle.word_tables.specs.Layout.{volume_line}
-use Rattle.nvm_model.specs.Device.{device_pages}
 use Rattle.nvm_model.specs.Interrupted.{MaySync}
-use Rattle.nvm_model.specs.Page.{Page, cell_of, fill, is_bad_cell, persist, put}
-use Rattle.nvm_model.proofs.DeviceLemmas.{device_pages-stand, presence_of-device}
+use Rattle.nvm_model.specs.Page.{Page, cell_of, fill, persist, put}
 use Rattle.pm_volume.specs.Images.{EachReadsPages}
 use Rattle.pm_volume.specs.Object.{VolumeHolds, VolumeServes, VolumeState}
 use Rattle.pm_volume.specs.Refusals as volume
@@ -16,19 +14,13 @@ use Rattle.pm_volume.specs.Refusals.{VolumeRefusal, refused_if, volume_says}
 use Rattle.pm_volume.specs.Refusals.VolumeRefusal.{Poison}
 use Rattle.pm_volume.specs.declared.fault.VolumeFault.{VolumeFault}
 use Rattle.pm_volume.proofs.StoreLemmas.{reads-then}
-use Rattle.append_log.specs.Refusals.{load_refusal, mark_refusal, write_refusal}
-use Rattle.append_log.specs.Writes.{MayWrite, stored_line, written_line}
-use Rattle.append_log.proofs.CallLemmas.{answered-none, line-refused, ok-then, store-refused}
-use Rattle.append_log.proofs.HoldsLemmas.{length-holds}
-use Rattle.append_log.proofs.LineLemmas.{IsStrong, fill-strong, stored-strong}
-
--- pages that volume and device stand for, whichever exist
-pub shown_pages : VolumeState → Medium → List Page
-shown_pages s m = device_pages (volume_line s.geo) m s.present
-
-pub shown-hold : (s : VolumeState) (m : Medium) → VolumeHolds s m (shown_pages s m)
-unfolding shown_pages
-shown-hold s m = record { there = presence_of-device (volume_line s.geo) m s.present; stand = device_pages-stand (volume_line s.geo) m s.present }
+use Rattle.append_log.specs.Refusals.{load_refusal, write_refusal}
+use Rattle.pm_volume.specs.Line.{MayWrite, stored_line, written_line}
+use Rattle.append_log.proofs.CallLemmas.{ok-then}
+use Rattle.pm_volume.proofs.LineCallLemmas.{line-refused, store-refused}
+use Rattle.pm_volume.proofs.HoldsLemmas.{length-holds, shown-hold, shown_pages}
+use Rattle.pm_volume.specs.Left.{IsSoundLine}
+use Rattle.pm_volume.proofs.LineLemmas.{IsStrong, fill-strong, stored-strong}
 
 -- why a store of the line is refused
 pub store-answered : (T : Type 0) (s : VolumeState) (m : Medium) (n len : ℕ) (r : Result T VolumeFault) → len ≡ 64 → n < 64 * s.geo.vpages
@@ -38,7 +30,7 @@ store-answered T s m n len r size within refused =
     (refused (shown_pages s m) (shown-hold s m))
 
 module _ (s s1 : VolumeState) (m m1 m2 : Medium) (n : ℕ) (bytes : List ℕ) (size : length bytes ≡ 64) (within : n < 64 * s.geo.vpages) (serves : VolumeServes s m)
-    (sound : (pages : List Page) → VolumeHolds s m pages → mark_refusal n (cell_of pages n) ≡ None) (geo : s1.geo ≡ s.geo)
+    (sound : (pages : List Page) → VolumeHolds s m pages → IsSoundLine (cell_of pages n)) (geo : s1.geo ≡ s.geo)
     (stored : (pages : List Page) → VolumeHolds s m pages → VolumeHolds s1 m1 (put (64 * n) bytes (fill (64 * n) (length bytes) pages))) where
   held : (pages : List Page) → VolumeHolds s m pages → VolumeHolds s1 m1 (stored_line n bytes pages)
   held pages holds = subst (λ len. VolumeHolds s1 m1 (put (64 * n) bytes (fill (64 * n) len pages))) size (stored pages holds)

@@ -1,5 +1,3 @@
 pub mod Lines
 pub mod Refusals
 pub mod Log
-pub mod Writes
-pub mod Left

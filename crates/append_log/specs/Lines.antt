@@ -1,21 +1,9 @@
 -- What lines of the volume hold: the count of records in line 0, and a record in each line after it.
-use Rattle.std.specs.Prelude.{ℕ, List, Option, Some, None, option_map, option_and_then, nat_le, nat_lt, drop, take, slice_index, length, ◌*◌, if◌then◌else◌}
-use Rattle.line_device.specs.Word.{word_at}
-use Rattle.nvm_model.specs.Cell.{Cell, cell_byte}
+use Rattle.std.specs.Prelude.{ℕ, List, Option, Some, None, option_and_then, nat_le, nat_lt, drop, take, slice_index, length, ◌*◌, if◌then◌else◌}
+use Rattle.nvm_model.specs.Cell.{Cell}
 use Rattle.nvm_model.specs.Numbered.{list_from}
-use Rattle.nvm_model.specs.Page.{Page, cell_of, is_bad_cell}
-
--- the bytes of a line as last stored, zeros where its page is absent
-abbrev pub line_byte : Option Cell → ℕ → ℕ
-line_byte None k = 0
-line_byte (Some cell) k = cell_byte cell k
-
-unfoldable pub line_bytes : Option Cell → List ℕ
-line_bytes line = list_from (line_byte line) 0 64
-
--- what a load of the line gives; a bad line has no data
-abbrev pub line_in : Option Cell → Option (List ℕ)
-line_in line = if is_bad_cell line then None else Some (line_bytes line)
+use Rattle.nvm_model.specs.Page.{Page, cell_of}
+use Rattle.pm_volume.specs.Line.{first_word, line_in}
 
 -- a record in the bytes of its line: its length in the first one, and then as many bytes
 abbrev pub record_of : List ℕ → Option (List ℕ)
@@ -23,7 +11,7 @@ record_of bytes = if nat_le (slice_index bytes 0) 48 then Some (take (slice_inde
 
 -- how many records there are, by line 0
 abbrev pub count_in : Option Cell → Option ℕ
-count_in line = option_map (λ bytes. word_at bytes 0) (line_in line)
+count_in = first_word
 
 -- the record of a line, None where the line is bad or has a wrong length
 abbrev pub entry_in : Option Cell → Option (List ℕ)

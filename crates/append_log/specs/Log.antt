@@ -3,7 +3,7 @@ use Rattle.std.specs.Prelude.{◌≡◌, ◌≤◌, ◌<◌, ◌*◌, ℕ, List,
 use Rattle.line_device.specs.Medium.{Medium}
 use Rattle.nvm_model.specs.Page.{Page, cell_of}
 use Rattle.pm_volume.specs.Object.{VolumeState, VolumeHolds, VolumeServes}
-use Rattle.append_log.specs.Left.{IsDurable}
+use Rattle.pm_volume.specs.Left.{IsDurable}
 use Rattle.append_log.specs.Lines.{count_in, log_of}
 
 -- the volume, and how many records there are

@@ -12,7 +12,7 @@ use Rattle.pm_volume.specs.Refusals.{VolumeRefusal, volume_says, metadata_refusa
 use Rattle.pm_volume.specs.Refusals.VolumeRefusal.{Poison}
 use Rattle.append_log.specs.declared.fault.LogFault.{LogFault}
 use Rattle.append_log.specs.declared.fault.LogFault.TheVariants as fault
-use Rattle.append_log.specs.Lines.{count_in, entry_in, log_of}
+use Rattle.append_log.specs.Lines.{entry_in, log_of}
 use Rattle.append_log.specs.Log.{LogState}
 
 -- why a call is refused; of a line its offset is told

@@ -1,5 +1,5 @@
 // Single lines of the volume: loaded, tested for their marks, and written durably.
-ghost use Rattle.std.specs.Prelude.{◌≡◌, ◌*◌, ◌<◌, IfOk, IsTrue, List, None, OnOk, Some, length, slice_index, ℕ};
+ghost use Rattle.std.specs.Prelude.{◌≡◌, ◌*◌, ◌<◌, IfOk, IsTrue, List, OnOk, Some, length, slice_index, ℕ};
 ghost use Rattle.line_device.specs.Medium.{WritesBack};
 ghost use Rattle.line_words.specs.Told.{Answers, Checks, OnRefused, OnWorked, is_done, outcome_by};
 ghost use Rattle.nvm_model.specs.Page.{Page, cell_of};
@@ -8,9 +8,9 @@ ghost use Rattle.pm_volume.specs.Area.{IsOfVolume};
 ghost use Rattle.pm_volume.specs.Images.{EachReadsPages};
 ghost use Rattle.pm_volume.specs.Object.{VolumeHolds, VolumeServes};
 ghost use Rattle.pm_volume.specs.Refusals.{volume_says};
-ghost use Rattle.append_log.specs.Lines.{line_in};
 ghost use Rattle.append_log.specs.Refusals.{load_refusal, log_says, mark_refusal, write_refusal};
-ghost use Rattle.append_log.specs.Writes.{MayWrite, written_line};
+ghost use Rattle.pm_volume.specs.Left.{IsSoundLine};
+ghost use Rattle.pm_volume.specs.Line.{MayWrite, line_in, written_line};
 
 use crate::LogFault;
 use line_device::Lines;
@@ -74,8 +74,7 @@ pub(crate) fn write_line<L: Lines>(
     requires on { IsTrue (L.state dev.old).panel.power }
     requires within { line < 64 * volume.old.geo.vpages }
     requires whole { length bytes.now ≡ 64 }
-    requires sound { (pages : List Page) → VolumeHolds volume.old (L.state dev.old).medium pages
-        → mark_refusal line (cell_of pages line) ≡ None }
+    requires sound { (pages : List Page) → VolumeHolds volume.old (L.state dev.old).medium pages → IsSoundLine (cell_of pages line) }
     ensures refused { Answers volume_says (write_refusal volume.old (L.state dev.old).medium line) result }
     ensures untouched { OnRefused volume_says result ((volume.new ≡ volume.old) × (dev.new ≡ dev.old)) }
     ensures ok { OnOk result ((pages : List Page) → VolumeHolds volume.old (L.state dev.old).medium pages

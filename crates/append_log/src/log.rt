@@ -6,7 +6,7 @@ ghost use Rattle.page_lines.specs.Turns.{WritesBackOthers};
 ghost use Rattle.pm_volume.specs.Area.{IsOfVolume};
 ghost use Rattle.pm_volume.specs.Object.{VolumeHolds, VolumeServes};
 ghost use Rattle.append_log.specs.Lines.{log_of};
-ghost use Rattle.append_log.specs.Left.{EachLeft};
+ghost use Rattle.pm_volume.specs.Left.{EachLeft};
 ghost use Rattle.append_log.specs.Log.{HoldsLog, LogServes, LogStands};
 ghost use Rattle.append_log.specs.Refusals.{append_refusal, check_refusal, get_refusal, log_says, open_refusal};
 

@@ -1,9 +1,6 @@
-use Rattle.std.proofs.Common.{◌≡◌, ◌+◌, ◌*◌, ◌/◌, ◌%◌, ◌<◌, ◌∙◌, None, Ok, List, subst, sym, true, ap, arith}
-use Rattle.line_words.specs.Told.{Checks}
-use Rattle.nvm_model.specs.Page.{cell_of}
-use Rattle.pm_volume.specs.Object.{volume_place}
+use Rattle.std.proofs.Common.{◌∙◌, sym, true, arith}
 use Rattle.pm_volume.proofs.PlaceLemmas.{lines_apart}
-use Rattle.append_log.proofs.CallLemmas.{marked, marked-bad, marked-good, marked-weak, place-found, unmarked}
+use Rattle.append_log.proofs.CallLemmas.{marked, marked-bad, marked-good, marked-weak, place-found}
 use Rattle.append_log.proofs.lines.check_line.Goals as goal
 
 pub overflow_add-place : goal.overflow_add-place

@@ -1,6 +1,5 @@
-use Rattle.std.proofs.Common.{◌≡◌, ◌*◌, inl, subst, sym, ap, ◌∙◌, None, Option, IsTrue, length, List, arith}
+use Rattle.std.proofs.Common.{inl, subst, sym, ap, ◌∙◌, Option, IsTrue, length, arith}
 use Rattle.line_words.specs.Told.{Answers}
-use Rattle.nvm_model.specs.Page.{Page}
 use Rattle.page_lines.proofs.OthersLemmas.{others-trans}
 use Rattle.page_lines.specs.Turns.{WritesBackOthers}
 use Rattle.word_tables.specs.declared.geometry.Geometry.{Geometry}

@@ -1,4 +1,4 @@
-use Rattle.std.proofs.Common.{◌≡◌, ◌++◌, List, ℕ, ap, replicate, ◌∙◌}
+use Rattle.std.proofs.Common.{◌++◌, List, ℕ, ap, replicate, ◌∙◌}
 use Rattle.line_device.specs.Word.{word_at}
 use Rattle.append_log.proofs.RecordLemmas.{count-spelled}
 use Rattle.append_log.proofs.records.count_line.Goals as goal

@@ -1,4 +1,4 @@
-use Rattle.std.proofs.Common.{◌≡◌, ◌⊎◌, inl, ◌+◌, ◌++◌, ◌∷◌, [], List, ℕ, Option, Some, None, Err, Ok, IsTrue, ap, length, refl, subst, sym, ◌∙◌}
+use Rattle.std.proofs.Common.{◌⊎◌, inl, ◌+◌, ◌++◌, ◌∷◌, [], List, ℕ, Option, Some, None, Err, Ok, ap, length, refl, subst, sym, ◌∙◌}
 use Rattle.line_words.specs.Told.{Answers}
 use Rattle.line_words.proofs.ToldLemmas.{checked_went}
 use Rattle.line_words.specs.Told.{is_done}
@@ -10,14 +10,14 @@ use Rattle.pm_volume.specs.Area.{IsOfVolume}
 use Rattle.pm_volume.specs.Object.{VolumeHolds, VolumeState}
 use Rattle.pm_volume.specs.Refusals.{VolumeRefusal, volume_says}
 use Rattle.append_log.specs.declared.fault.LogFault.TheVariants.{Volume}
-use Rattle.append_log.specs.Left.{EachLeft}
+use Rattle.pm_volume.specs.Left.{EachLeft}
 use Rattle.append_log.specs.Log.{HoldsLog, LogServes, LogStands, LogState}
 use Rattle.append_log.specs.Refusals.{append_refusal, check_refusal, log_says, write_refusal}
 use Rattle.append_log.proofs.BegunLemmas.{IsRecorded, IsTested, append-done, count-refused, count-sound, count-unrefused, record-images, record-refused, record-sound}
 use Rattle.append_log.proofs.CallLemmas.{answered-none, answers-first, answers-passed, log-passed}
 use Rattle.append_log.proofs.CountedLemmas.{append-holds, append-serves, count-images}
 use Rattle.append_log.proofs.PassLemmas.{done-passed, done-refused, never-stopped, refused-passed, tested-result, tested-unworked, worked-through}
-use Rattle.append_log.proofs.StoredLemmas.{shown-hold, shown_pages}
+use Rattle.pm_volume.proofs.HoldsLemmas.{shown-hold, shown_pages}
 use Rattle.append_log.proofs.log.AppendLog.append.Goals as goal
 
 pub write_line-requires-clause-sound : goal.write_line-requires-clause-sound

@@ -3,8 +3,8 @@ use Rattle.line_device.proofs.WriteBackLemmas.{write_back-refl}
 use Rattle.line_words.specs.Told.{Finds}
 use Rattle.nvm_model.specs.Page.{Page, cell_of}
 use Rattle.pm_volume.specs.Object.{VolumeHolds, VolumeState}
-use Rattle.append_log.specs.Lines.{line_in}
-use Rattle.append_log.specs.Log.{HoldsLog, LogServes, LogState}
+use Rattle.pm_volume.specs.Line.{line_in}
+use Rattle.append_log.specs.Log.{HoldsLog, LogState}
 use Rattle.append_log.specs.Refusals.{LogRefusal, get_refusal, load_refusal, log_says}
 use Rattle.append_log.proofs.OpenLemmas.{found-passed, get-found, get-from, get-record, serves-kept}
 use Rattle.append_log.proofs.log.AppendLog.get.Goals as goal

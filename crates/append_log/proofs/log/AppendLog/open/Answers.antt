@@ -2,7 +2,7 @@ use Rattle.std.proofs.Common.{◌∙◌, sym, ap, Some, option_map, arith}
 use Rattle.line_device.specs.Word.{word_at}
 use Rattle.nvm_model.specs.Page.{cell_of}
 use Rattle.pm_volume.specs.Object.{VolumeState}
-use Rattle.append_log.proofs.HoldsLemmas.{length-holds}
+use Rattle.pm_volume.proofs.HoldsLemmas.{length-holds}
 use Rattle.append_log.proofs.OpenLemmas.{counts-kept, found-passed, open-length, open-right, open-wrong}
 use Rattle.append_log.specs.Refusals.{load_refusal}
 use Rattle.append_log.proofs.log.AppendLog.open.Goals as goal

@@ -14,7 +14,7 @@ use Rattle.nvm_model.specs.Page.Page.{Absent, Present}
 use Rattle.nvm_model.proofs.NumberedLemmas.{slice_get-map_from}
 use Rattle.nvm_model.proofs.PageLemmas.{cell_of-persist, cell_of-put}
 use Rattle.page_lines.proofs.PieceLemmas.{word_stored-out}
-use Rattle.append_log.specs.Left.{HasWords, IsKeptLine}
+use Rattle.pm_volume.specs.Left.{HasWords, IsKeptLine}
 
 -- lists with the same items
 pub same_gets : {A : Type 0} (xs ys : List A) → ((k : ℕ) → slice_get xs k ≡ slice_get ys k) → xs ≡ ys

@@ -15,12 +15,12 @@ use Rattle.nvm_model.specs.Numbered.{map_from}
 use Rattle.nvm_model.specs.Page.{Page, cell_of, fill, is_present, persist, presence_of, put}
 use Rattle.nvm_model.proofs.NumberedLemmas.{length-map_from, slice_get-map_from}
 use Rattle.nvm_model.proofs.PageLemmas.{length-fill, length-persist, length-put_fill}
-use Rattle.append_log.specs.Left.{HasWords, IsDurable, IsKeptLine, IsOneOf, LeavesCell, MayLeave}
-use Rattle.append_log.specs.Lines.{count_in, line_bytes, line_in}
-use Rattle.append_log.specs.Writes.{MayWrite, stored_line, written_line}
-use Rattle.append_log.proofs.LeftLemmas.{fill-kept, persist-keeps, put-keeps, store-keeps, sync-keeps}
-use Rattle.append_log.proofs.LineLemmas.{IsStrong, get-line_bytes, kept-durable, kept-reads, line_apart, line_touched, stored-is}
-use Rattle.append_log.proofs.RestartLemmas.{durable_word, restart-keeps}
+use Rattle.pm_volume.specs.Left.{HasWords, IsDurable, IsKeptLine, IsOneOf, LeavesCell, MayLeave}
+use Rattle.pm_volume.specs.Line.{first_word, line_bytes, line_in}
+use Rattle.pm_volume.specs.Line.{MayWrite, stored_line, written_line}
+use Rattle.pm_volume.proofs.LeftLemmas.{fill-kept, persist-keeps, put-keeps, store-keeps, sync-keeps}
+use Rattle.pm_volume.proofs.LineLemmas.{IsStrong, get-line_bytes, kept-durable, kept-reads, line_apart, line_touched, stored-is}
+use Rattle.pm_volume.proofs.RestartLemmas.{durable_word, restart-keeps}
 
 -- how many pages there are
 same_presence : (old new : List Page) → presence_of new ≡ presence_of old → length new ≡ length old
@@ -58,7 +58,7 @@ module _ (l : ℕ) (bytes : List ℕ) (size : length bytes ≡ 64) where
 
 -- the count of a line by its first word
 pub count-word : (weak : Bool) (words : List (List ℕ)) (word : List ℕ) → slice_get words 0 ≡ Some word
-    → count_in (Some (Kept weak words)) ≡ Some (word_from (λ k. byte_at k (newest word)))
+    → first_word (Some (Kept weak words)) ≡ Some (word_from (λ k. byte_at k (newest word)))
 count-word weak words word is = ap Some (word_from-cong _ _ each)
   where
     each : (k : ℕ) → k < 8 → get_or (line_bytes (Some (Kept weak words))) (8 * 0 + k) 0 ≡ byte_at k (newest word)
@@ -104,11 +104,11 @@ record HasFirst (old new : ℕ) (o : Option Cell) : Type 0 where
 
 -- what a restart leaves of its count
 first-left : (a b : ℕ) (o p : Option Cell) → HasFirst a b o → Became LeavesCell o p
-    → (count_in p ≡ Some (word_from (λ k. byte_at k a))) ⊎ (count_in p ≡ Some (word_from (λ k. byte_at k b)))
+    → (first_word p ≡ Some (word_from (λ k. byte_at k a))) ⊎ (first_word p ≡ Some (word_from (λ k. byte_at k b)))
 first-left a b o p has may = by_cell p (subst (λ c. Became LeavesCell c p) has.is may)
   where
     by_cell : (p : Option Cell) → Became LeavesCell (Some (Kept false has.words)) p
-        → (count_in p ≡ Some (word_from (λ k. byte_at k a))) ⊎ (count_in p ≡ Some (word_from (λ k. byte_at k b)))
+        → (first_word p ≡ Some (word_from (λ k. byte_at k a))) ⊎ (first_word p ≡ Some (word_from (λ k. byte_at k b)))
     by_cell None is = absurd is
     by_cell (Some Bad) is = absurd is
     by_cell (Some (Kept mark left)) is =
@@ -189,10 +189,10 @@ module _ (l : ℕ) (bytes : List ℕ) (size : length bytes ≡ 64) (old : List P
 -- A restart finds the old count or that of the bytes.
 pub may_write-count : (l : ℕ) (bytes : List ℕ) (old new left : List Page) → length bytes ≡ 64 → ((k : ℕ) → get_or bytes k 0 < 256)
     → IsStrong (fill (64 * l) 64 old) l → IsDurable (cell_of old l) → MayWrite l bytes old new → MayLeave new left
-    → (count_in (cell_of left l) ≡ count_in (cell_of old l)) ⊎ (count_in (cell_of left l) ≡ Some (word_at bytes 0))
+    → (first_word (cell_of left l) ≡ first_word (cell_of old l)) ⊎ (first_word (cell_of left l) ≡ Some (word_at bytes 0))
 may_write-count l bytes old new left size small strong lasts may leaves =
     elim (has-written l bytes size old strong durable h found new may) [
-      | inl same ↦ inl (ap count_in (restart-keeps new left l (subst IsDurable (sym (ap (λ (ps : List Page). cell_of ps l) same)) lasts) leaves ∙ ap (λ (ps : List Page). cell_of ps l) same))
+      | inl same ↦ inl (ap first_word (restart-keeps new left l (subst IsDurable (sym (ap (λ (ps : List Page). cell_of ps l) same)) lasts) leaves ∙ ap (λ (ps : List Page). cell_of ps l) same))
       | inr has ↦
           elim (first-left (newest h) _ (cell_of new l) (cell_of left l) has (leaves.each l)) [
             | inl was ↦ inl (was ∙ sym before)
@@ -212,5 +212,5 @@ may_write-count l bytes old new left size small strong lasts may leaves =
     found : slice_get strong.words 0 ≡ Some h
     found = slice_get-get_or strong.words 0 [] (omega (arith, strong.size))
 
-    before : count_in (cell_of old l) ≡ Some (word_from (λ k. byte_at k (newest h)))
-    before = sym (ap (option_map (λ bs. word_at bs 0)) (kept-reads _ _ filled)) ∙ ap count_in strong.is ∙ count-word false strong.words h found
+    before : first_word (cell_of old l) ≡ Some (word_from (λ k. byte_at k (newest h)))
+    before = sym (ap (option_map (λ bs. word_at bs 0)) (kept-reads _ _ filled)) ∙ ap first_word strong.is ∙ count-word false strong.words h found

@@ -23,11 +23,10 @@ use Rattle.nvm_model.proofs.NumberedLemmas.{length-list_from, length-map_from, l
 use Rattle.nvm_model.proofs.PageLemmas.{cell_of-fill, cell_of-persist, cell_of-put}
 use Rattle.nvm_model.proofs.PutLemmas.{byte_in-put}
 use Rattle.pm_volume.proofs.BadLemmas.{has_line}
-use Rattle.append_log.specs.Left.{HasWords, IsDurable, IsKeptLine}
-use Rattle.append_log.specs.Lines.{line_byte, line_bytes, line_in}
-use Rattle.append_log.specs.Refusals.{mark_refusal}
-use Rattle.append_log.specs.Writes.{stored_line, written_line}
-use Rattle.append_log.proofs.LeftLemmas.{fill-kept, has_words, same_gets}
+use Rattle.pm_volume.specs.Left.{HasWords, IsDurable, IsKeptLine, IsSoundLine}
+use Rattle.pm_volume.specs.Line.{line_byte, line_bytes, line_in}
+use Rattle.pm_volume.specs.Line.{stored_line, written_line}
+use Rattle.pm_volume.proofs.LeftLemmas.{fill-kept, has_words, same_gets}
 
 -- a line and its bytes
 pub line_touched : (n : ℕ) → touches (64 * n) 64 n ≡ true
@@ -131,7 +130,7 @@ pub record IsStrong (pages : List Page) (n : ℕ) : Type 0 where
   pub is : cell_of pages n ≡ Some (Kept false words)
   pub size : length words ≡ 8
 
-pub fill-strong : (place : ℕ → ℕ) (m : Medium) (pages : List Page) (n : ℕ) → PagesStand place m pages → n < 64 * length pages → mark_refusal n (cell_of pages n) ≡ None
+pub fill-strong : (place : ℕ → ℕ) (m : Medium) (pages : List Page) (n : ℕ) → PagesStand place m pages → n < 64 * length pages → IsSoundLine (cell_of pages n)
     → IsStrong (fill (64 * n) 64 pages) n
 unfolding fill
 fill-strong place m pages n stand within sound = by_page (slice_get pages (n / 64)) refl
@@ -145,8 +144,8 @@ fill-strong place m pages n stand within sound = by_page (slice_get pages (n / 6
         ∙ ap Some (get_or-replicate 64 (n % 64) zero_cell zero_cell (omega arith))
 
     by_cell : (cell : Cell) → cell_of pages n ≡ Some cell → IsStrong (fill (64 * n) 64 pages) n
-    by_cell Bad is = absurd (none-some _ (sym sound ∙ ap (mark_refusal n) is))
-    by_cell (Kept true words) is = absurd (none-some _ (sym sound ∙ ap (mark_refusal n) is))
+    by_cell Bad is = absurd (subst IsSoundLine is sound)
+    by_cell (Kept true words) is = absurd (subst IsSoundLine is sound)
     by_cell (Kept false words) is = record {
       words = words;
       is = cell_of-fill (64 * n) 64 pages n (Kept false words) is;

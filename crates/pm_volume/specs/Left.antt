@@ -1,5 +1,5 @@
 -- What a store, a sync or a restart may leave of lines of pages.
-use Rattle.std.specs.Prelude.{◌≡◌, ◌⊎◌, ℕ, List, [], ◌∷◌, length, map, slice_get, Option, Some, None}
+use Rattle.std.specs.Prelude.{◌≡◌, ◌⊎◌, ℕ, true, false, List, [], ◌∷◌, length, map, slice_get, Option, Some, None}
 use Rattle.line_device.specs.History.{IsIn, latest}
 use Rattle.line_device.specs.Medium.{Medium}
 use Rattle.word_tables.specs.declared.geometry.Geometry.{Geometry}
@@ -12,6 +12,13 @@ use Rattle.pm_volume.specs.Images.{EachReadsPages}
 -- the line is as it was, or its page was absent and is filled
 abbrev pub IsKeptLine : Option Cell → Option Cell → Type 0
 IsKeptLine old new = (new ≡ old) ⊎ ((old ≡ None) × (new ≡ Some zero_cell))
+
+-- the line survives a sync: its page is absent, or it is neither bad nor weak
+abbrev pub IsSoundLine : Option Cell → Type 0
+IsSoundLine None = Unit {0}
+IsSoundLine (Some Bad) = ⊥
+IsSoundLine (Some (Kept true words)) = ⊥
+IsSoundLine (Some (Kept false words)) = Unit {0}
 
 -- a line that is there has eight words, unless it is bad
 abbrev pub HasWords : Option Cell → Type 0
