@@ -10,9 +10,9 @@ ghost use Rattle.pm_volume.specs.Left.{EachLeft};
 ghost use Rattle.append_log.specs.Log.{HoldsLog, LogServes, LogStands};
 ghost use Rattle.append_log.specs.Refusals.{append_refusal, check_refusal, get_refusal, log_says, open_refusal};
 
+use crate::LogFault;
 use crate::lines::{check_line, load_line, write_line};
 use crate::records::{MOST_BYTES, Record, count_in, count_line, record_in, record_line};
-use crate::LogFault;
 use line_device::Lines;
 use nvm_base::{LINE, PAGE};
 use pm_volume::Volume;

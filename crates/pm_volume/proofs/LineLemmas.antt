@@ -1,13 +1,12 @@
 -- One line of the volume: what a load of it gives, and what it has once it is written.
-use Rattle.std.proofs.Common.{◌≡◌, ◌⊎◌, inl, inr, ℕ, zero, suc, ◌+◌, ◌-◌, ◌*◌, ◌/◌, ◌%◌, ◌<◌, ◌≤◌, ◌^◌, Bool, true, false, cond, Option, Some, None, option_map, option_and_then, List, [], ◌∷◌, length, map, replicate, get_or, slice_get, slice_index_or, position, refl, sym, ap, subst, ◌∙◌, arith}
+use Rattle.std.proofs.Common.{◌≡◌, inl, inr, ℕ, zero, suc, ◌+◌, ◌-◌, ◌*◌, ◌/◌, ◌%◌, ◌<◌, ◌^◌, Bool, true, false, cond, Option, Some, None, option_map, option_and_then, List, [], ◌∷◌, length, map, replicate, get_or, slice_get, slice_index_or, position, refl, sym, ap, subst, ◌∙◌, arith}
 use native.Mathlib.Nat.{zero-div}
 use Rattle.std.specs.Int.{byte_at}
 use Rattle.std.specs.List.{range_with_len}
-use Rattle.std.proofs.lemmas.Bool.{false≢true}
 use Rattle.std.proofs.lemmas.Bool.Decides.{nat_tests}
 use Rattle.std.proofs.lemmas.Grind.{same_number_lists}
-use Rattle.std.proofs.lemmas.List.{get_or-replicate, length-map, length-replicate}
-use Rattle.std.proofs.lemmas.Option.{get_or_from_slice_get, none-some, same_Some, slice_get-get_or, slice_get-map}
+use Rattle.std.proofs.lemmas.List.{get_or-replicate, length-replicate}
+use Rattle.std.proofs.lemmas.Option.{get_or_from_slice_get, none-some, slice_get-get_or}
 use Rattle.line_device.specs.History.{latest, newest}
 use Rattle.line_device.specs.Medium.{Medium, word_stored}
 use Rattle.line_device.specs.Word.{byte_over}
@@ -17,16 +16,15 @@ use Rattle.line_words.proofs.PositionLemmas.{first_among, none_among}
 use Rattle.nvm_model.specs.Cell.{Cell, cell_byte, covers, flush_cell, lowest_touched, persist_cell, put_cell, touches, zero_cell}
 use Rattle.nvm_model.specs.Cell.Cell.{Bad, Kept}
 use Rattle.nvm_model.specs.Numbered.{list_from, map_from}
-use Rattle.nvm_model.specs.Page.{Page, PagesStand, byte_in, cell_in, cell_of, fill, fill_page, first_bad_line, first_uncovered_line, is_bad_cell, look, persist, put, touches_page}
+use Rattle.nvm_model.specs.Page.{Page, PagesStand, byte_in, cell_in, cell_of, fill, fill_page, first_bad_line, is_bad_cell, look, touches_page}
 use Rattle.nvm_model.specs.Page.Page.{Absent, Present}
 use Rattle.nvm_model.proofs.NumberedLemmas.{length-list_from, length-map_from, list_from-same, slice_get-list_from, slice_get-map_from}
 use Rattle.nvm_model.proofs.PageLemmas.{cell_of-fill, cell_of-persist, cell_of-put}
 use Rattle.nvm_model.proofs.PutLemmas.{byte_in-put}
 use Rattle.pm_volume.proofs.BadLemmas.{has_line}
-use Rattle.pm_volume.specs.Left.{HasWords, IsDurable, IsKeptLine, IsSoundLine}
+use Rattle.pm_volume.specs.Left.{IsDurable, IsKeptLine, IsSoundLine}
 use Rattle.pm_volume.specs.Line.{line_byte, line_bytes, line_in}
 use Rattle.pm_volume.specs.Line.{stored_line, written_line}
-use Rattle.pm_volume.proofs.LeftLemmas.{fill-kept, has_words, same_gets}
 
 -- a line and its bytes
 pub line_touched : (n : ℕ) → touches (64 * n) 64 n ≡ true

@@ -15,7 +15,7 @@ use Rattle.nvm_model.specs.Page.Page.{Absent, Present}
 use Rattle.nvm_model.proofs.NumberedLemmas.{length-list_from, slice_get-list_from}
 use Rattle.nvm_model.proofs.PageLemmas.{cell_of-read_pages, page_of_line, presence_of-read_pages, read_pages-there}
 use Rattle.pm_volume.proofs.BadLemmas.{has_line}
-use Rattle.pm_volume.specs.Left.{HasWords, IsDurable, IsOneOf, LeavesCell, MayLeave}
+use Rattle.pm_volume.specs.Left.{HasWords, IsDurable, LeavesCell, MayLeave}
 use Rattle.pm_volume.proofs.LeftLemmas.{same_gets}
 
 -- the one value of a durable word

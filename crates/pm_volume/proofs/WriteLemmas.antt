@@ -1,22 +1,22 @@
 -- A line that is written: which lines it keeps, and what a cut may leave of its first word.
-use Rattle.std.proofs.Common.{◌≡◌, ◌⊎◌, inl, inr, ℕ, ◌+◌, ◌-◌, ◌*◌, ◌/◌, ◌%◌, ◌<◌, ◌≤◌, Bool, true, false, cond, Option, Some, None, option_map, List, [], ◌∷◌, ◌++◌, length, map, get_or, slice_get, slice_index_or, refl, sym, ap, subst, ◌∙◌, arith}
+use Rattle.std.proofs.Common.{◌≡◌, ◌⊎◌, inl, inr, ℕ, ◌+◌, ◌-◌, ◌*◌, ◌/◌, ◌%◌, ◌<◌, Bool, true, false, cond, Option, Some, None, option_map, List, [], ◌∷◌, ◌++◌, length, map, get_or, slice_get, slice_index_or, refl, sym, ap, subst, ◌∙◌, arith}
 use Rattle.std.specs.Int.{byte_at}
 use Rattle.std.proofs.lemmas.List.{length-map}
-use Rattle.std.proofs.lemmas.Option.{get_or_from_slice_get, none-some, same_Some, slice_get-get_or, slice_get-map}
+use Rattle.std.proofs.lemmas.Option.{get_or_from_slice_get, same_Some, slice_get-get_or, slice_get-map}
 use Rattle.line_device.specs.History.{IsIn, latest, newest}
 use Rattle.line_device.specs.Medium.{word_stored}
 use Rattle.line_device.specs.Word.{reaches, word_at, word_from, word_over}
 use Rattle.line_device.proofs.HistoryLemmas.{is_in-latest, is_in-part, is_in-push, is_part-latest}
 use Rattle.line_device.proofs.WordLemmas.{byte_at-word_from, word_from-cong, word_over-whole}
-use Rattle.nvm_model.specs.Cell.{Cell, cell_byte, flush_cell, persist_cell, put_cell, touches}
+use Rattle.nvm_model.specs.Cell.{Cell, flush_cell, touches}
 use Rattle.nvm_model.specs.Cell.Cell.{Bad, Kept}
-use Rattle.nvm_model.specs.Interrupted.{Became, MayPersist, MayPut, MayStore, MaySync}
+use Rattle.nvm_model.specs.Interrupted.{Became, MayPersist, MayPut}
 use Rattle.nvm_model.specs.Numbered.{map_from}
-use Rattle.nvm_model.specs.Page.{Page, cell_of, fill, is_present, persist, presence_of, put}
+use Rattle.nvm_model.specs.Page.{Page, cell_of, fill, is_present, presence_of, put}
 use Rattle.nvm_model.proofs.NumberedLemmas.{length-map_from, slice_get-map_from}
 use Rattle.nvm_model.proofs.PageLemmas.{length-fill, length-persist, length-put_fill}
-use Rattle.pm_volume.specs.Left.{HasWords, IsDurable, IsKeptLine, IsOneOf, LeavesCell, MayLeave}
-use Rattle.pm_volume.specs.Line.{first_word, line_bytes, line_in}
+use Rattle.pm_volume.specs.Left.{HasWords, IsDurable, IsKeptLine, LeavesCell, MayLeave}
+use Rattle.pm_volume.specs.Line.{first_word, line_bytes}
 use Rattle.pm_volume.specs.Line.{MayWrite, stored_line, written_line}
 use Rattle.pm_volume.proofs.LeftLemmas.{fill-kept, persist-keeps, put-keeps, store-keeps, sync-keeps}
 use Rattle.pm_volume.proofs.LineLemmas.{IsStrong, get-line_bytes, kept-durable, kept-reads, line_apart, line_touched, stored-is}

@@ -259,9 +259,10 @@ pub returns-in_err-write_line-2-clause-object : goal.returns-in_err-write_line-2
 returns-in_err-write_line-2-clause-object g c =
     let f = c.in_err-write_line-2.field-0.0 in
     let r = c.from_residual-in_err-write_line-2.result in
-    let handed = c.from_residual-in_err-write_line-2.ensures.1 in
-    (c.in_err-write_line-2.ensures.object.0 ∙ c.in_ok-write_line.ensures.object.0 ∙ ap (λ (t : LogState). t.volume.geo) c.self.view_is,
-    c.in_err-write_line-2.ensures.object.1 ∙ done-passed (Unit {0}) _ f r handed)
+    let handed = c.from_residual-in_err-write_line-2.ensures.1 in (
+      c.in_err-write_line-2.ensures.object.0 ∙ c.in_ok-write_line.ensures.object.0 ∙ ap (λ (t : LogState). t.volume.geo) c.self.view_is,
+      c.in_err-write_line-2.ensures.object.1 ∙ done-passed (Unit {0}) _ f r handed,
+    )
 
 pub returns-clause-refused : goal.returns-clause-refused
 returns-clause-refused g c =
@@ -301,7 +302,7 @@ returns-clause-ok g c =
     } in
     let last = (g.L.Lines.state c.write_line-2.new.dev).medium in
     subst (λ (t : LogState). (log : List (Option (List ℕ))) → HoldsLog t m log
-        → HoldsLog (record { volume = c.write_line-2.new.volume; len = s.len + 1 }) last (log ++ Some c.args.record.now ∷ [])) c.self.view_is
+    → HoldsLog (record { volume = c.write_line-2.new.volume; len = s.len + 1 }) last (log ++ Some c.args.record.now ∷ [])) c.self.view_is
     (λ log holds. append-holds s c.write_line.new.volume m mid c.args.record.now c.record_line.result recorded c.count_line.result c.count_line.ensures.length c.write_line-2.ensures.bytes c.count_line.ensures.count log holds c.write_line-2.new.volume last c.in_ok-write_line-2.ensures.ok)
 
 pub returns-clause-images : goal.returns-clause-images
