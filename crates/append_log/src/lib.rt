@@ -5,10 +5,12 @@
 #![tactic(auto)]
 
 mod fault;
+mod laws;
 mod lines;
 mod log;
 mod records;
 
 pub use fault::LogFault;
+pub use laws::the_log_is_found_again;
 pub use log::AppendLog;
 pub use records::{MOST_BYTES, Record};

@@ -29,3 +29,4 @@ pub mod LineLemmas
 pub mod WriteLemmas
 pub mod HoldsLemmas
 pub mod LineCallLemmas
+pub mod RemountLemmas

@@ -1,15 +1,26 @@
 // Laws of single lines of a volume, each a function without a body.
 ghost use Rattle.std.specs.Prelude.{◌≡◌, ◌⊎◌, ◌*◌, ◌<◌, ◌≤◌, ℕ, List, Some, false, length, slice_index};
-ghost use Rattle.line_device.specs.Medium.{Medium};
+ghost use Rattle.line_device.specs.Device.{Depicts};
+ghost use Rattle.line_device.specs.Medium.{Medium, Survivors, last_image};
 ghost use Rattle.line_device.specs.Panel.{Image};
 ghost use Rattle.line_device.specs.Word.{word_at};
 ghost use Rattle.line_device.specs.declared.line.Choice.{Choice};
+ghost use Rattle.line_words.specs.Words.{WritesBackOutside};
+ghost use Rattle.word_log.specs.Area.{IsOf};
+ghost use Rattle.word_log.specs.Rest.{IsImageOn};
+ghost use Rattle.word_tables.specs.Bounds.{IsValid};
+ghost use Rattle.word_tables.specs.Layout.{meta_lines, total_lines};
+ghost use Rattle.word_tables.specs.declared.geometry.Geometry.{Geometry};
 ghost use Rattle.nvm_model.specs.Cell.{touches};
 ghost use Rattle.nvm_model.specs.Interrupted.{MayStore, MaySync};
+ghost use Rattle.nvm_model.specs.Lines.{AreGood};
 ghost use Rattle.nvm_model.specs.Page.{KeepsPages, Page, PagesStand, cell_of, fill, persist, presence_of, put, read_pages};
+ghost use Rattle.pm_volume.specs.Area.{volume_area};
+ghost use Rattle.pm_volume.specs.Images.{ReadsPages};
 ghost use Rattle.pm_volume.specs.Left.{HasWords, IsDurable, IsKeptLine, IsSoundLine, MayLeave};
 ghost use Rattle.pm_volume.specs.Line.{MayWrite, first_word, line_in, written_line};
 ghost use Rattle.pm_volume.specs.Object.{VolumeHolds, VolumeState};
+ghost use Rattle.pm_volume.specs.Presence.{presence_read};
 
 /// A store or a sync keeps the lines that it doesn't touch, however it ends.
 pub fn stores_and_syncs_keep_other_lines()
@@ -32,6 +43,18 @@ pub fn a_restart_leaves_one_value()
         → KeepsPages choice place image pages → MayLeave pages (read_pages place image (presence_of pages)) }
     ensures keeps { (pages left : List Page) (n : ℕ) → IsDurable (cell_of pages n) → MayLeave pages left → cell_of left n ≡ cell_of pages n }
     ensures durable { (pages left : List Page) (n : ℕ) → MayLeave pages left → IsDurable (cell_of left n) }
+{}
+
+/// After a restart the words of the log are an image of what was before, and a mount finds pages that the restart may leave of
+/// those that this image names.
+pub fn a_mount_finds_what_was_left()
+    ensures image { (geo : Geometry) (choice : Choice) (old back : Medium) → IsValid geo → old.count ≡ total_lines geo → AreGood old (meta_lines geo)
+        → Survivors choice old back → IsImageOn (volume_area geo) old (last_image back) }
+    ensures pages { (geo : Geometry) (choice : Choice) (old back new : Medium) (image : Image) (before : List Page) (s : VolumeState) → IsValid geo
+        → old.count ≡ total_lines geo → AreGood old (meta_lines geo) → ReadsPages geo old (λ pages. pages ≡ before) (last_image back)
+        → Survivors choice old back → Depicts back image → WritesBackOutside (IsOf (volume_area geo)) back new
+        → s.geo ≡ geo → s.present ≡ presence_read geo (last_image back)
+        → (pages : List Page) × MayLeave before pages × VolumeHolds s new pages }
 {}
 
 /// A line that is stored and synced whole has its bytes durably, and its first word is the old one or the new one wherever that
