@@ -1,5 +1,4 @@
-use Rattle.std.proofs.Common.{◌≡◌, ◌⊎◌, inl, inr, List, length, sym, ap, ◌∙◌}
-use Rattle.nvm_model.specs.Page.{Page}
+use Rattle.std.proofs.Common.{◌⊎◌, inl, inr, ◌∙◌}
 use Rattle.pm_volume.proofs.HoldsLemmas.{length-holds}
 use Rattle.pm_volume.proofs.RemountLemmas.{remounted-each}
 use Rattle.pm_volume.proofs.ServesLemmas.{reads_rest}
