@@ -23,3 +23,10 @@ pub mod MountedLemmas
 pub mod StandingLemmas
 pub mod AddressLemmas
 pub mod FirstLineLemmas
+pub mod LeftLemmas
+pub mod RestartLemmas
+pub mod LineLemmas
+pub mod WriteLemmas
+pub mod HoldsLemmas
+pub mod LineCallLemmas
+pub mod RemountLemmas

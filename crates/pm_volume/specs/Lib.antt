@@ -6,3 +6,5 @@ pub mod Refusals
 pub mod Checked
 pub mod Images
 pub mod Mounting
+pub mod Left
+pub mod Line

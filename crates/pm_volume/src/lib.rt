@@ -11,6 +11,7 @@ mod discarding;
 mod fault;
 mod filling;
 mod laws;
+mod line_laws;
 mod lines;
 mod loading;
 mod mounting;
@@ -22,6 +23,10 @@ mod syncing;
 pub use area::volume_area;
 pub use fault::{MountFault, VolumeFault};
 pub use laws::{a_volume_holds_pages, addresses_are_found};
+pub use line_laws::{
+    a_line_is_written_whole, a_mount_finds_what_was_left, a_restart_leaves_one_value,
+    lines_of_a_volume_read_alike, stores_and_syncs_keep_other_lines,
+};
 use range_sets::RangeSet;
 use std::marker::Model;
 use word_log::Log;

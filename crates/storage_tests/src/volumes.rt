@@ -9,6 +9,7 @@ use pm_volume::{MountFault, Volume, VolumeFault};
 use std::alloc::Global;
 
 mod cuts;
+mod logs;
 mod stories;
 
 // Takes a device through a cut, and mounts its volume.

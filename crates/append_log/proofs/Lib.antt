@@ -1,0 +1,10 @@
+pub mod LogLemmas
+pub mod AppendLemmas
+pub mod CallLemmas
+pub mod RecordLemmas
+pub mod StoredLemmas
+pub mod CheckLemmas
+pub mod OpenLemmas
+pub mod BegunLemmas
+pub mod CountedLemmas
+pub mod PassLemmas

@@ -1,0 +1,26 @@
+-- What lines of the volume hold: the count of records in line 0, and a record in each line after it.
+use Rattle.std.specs.Prelude.{ℕ, List, Option, Some, None, option_and_then, nat_le, nat_lt, drop, take, slice_index, length, ◌*◌, if◌then◌else◌}
+use Rattle.nvm_model.specs.Cell.{Cell}
+use Rattle.nvm_model.specs.Numbered.{list_from}
+use Rattle.nvm_model.specs.Page.{Page, cell_of}
+use Rattle.pm_volume.specs.Line.{first_word, line_in}
+
+-- a record in the bytes of its line: its length in the first one, and then as many bytes
+abbrev pub record_of : List ℕ → Option (List ℕ)
+record_of bytes = if nat_le (slice_index bytes 0) 48 then Some (take (slice_index bytes 0) (drop 1 bytes)) else None
+
+-- how many records there are, by line 0
+abbrev pub count_in : Option Cell → Option ℕ
+count_in = first_word
+
+-- the record of a line, None where the line is bad or has a wrong length
+abbrev pub entry_in : Option Cell → Option (List ℕ)
+entry_in line = option_and_then record_of (line_in line)
+
+-- so many records, where as many lines come after line 0
+abbrev pub entries : List Page → ℕ → Option (List (Option (List ℕ)))
+entries pages count = if nat_lt count (64 * length pages) then Some (list_from (λ n. entry_in (cell_of pages n)) 1 count) else None
+
+-- The log of these pages: its records in order, None for one that can't be read. There is no log where line 0 has no count.
+unfoldable pub log_of : List Page → Option (List (Option (List ℕ)))
+log_of pages = option_and_then (entries pages) (count_in (cell_of pages 0))
