@@ -183,7 +183,9 @@ def compare(program, explorer, room, script):
     refuse(explorer, room, script)
     if not (script.questions or script.tables or script.listed):
         return
-    replies = replies_to(program, room, [script.image.name, "out"], script.program)
+    # The program's own cut comes in no run of EXPLORER's.
+    whole = ["cut in 4294967295" if line.startswith("cut in ") and line != "cut in 0" else line for line in script.program]
+    replies = replies_to(program, room, [script.image.name, "out"], whole)
     told = script.refusals(replies)
     status, wanted = bool(told), [script.draw.choice(("never", "may")) if set(asked) - set("_| ") else "never" for asked in script.questions]
     told += (table_of(script.places, script.reads) if script.tables else []) + (script.listed or [])
