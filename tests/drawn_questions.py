@@ -132,6 +132,8 @@ class Script:
             if wanted not in (None, got):
                 return f"line {n} was answered {got[:80]}, and by the model {wanted[:80]}"
         where = f"inside {self.numbers[lost]}" if lost is not None else f"before {at if lines[-1] == 'cut' else len(self.program) + 1}"
+        if int(where.split()[1]) <= self.begin:  # the program's own cut came before the cuts that are asked about
+            return None
         place = [name for name, _, _ in self.places].index(where)
         looked = " | ".join(replies[-len(self.reads):])
         known = self.questions.get(looked)

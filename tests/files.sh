@@ -114,8 +114,11 @@ in_program() {
 
 in_program not-in-a-program cut recover 'restart none' 'fail in 3' 'poison meta 0'
 in_program command vload 'vload 0' nonsense
-in_program before-the-look '# list' '# table' '# never data 00' '# never nonsense'
-in_program spelling '# look now' '#look' '# Look' '#LIST' '# refused' '# idle' '#never data 00' '# NEVER _' '# Never this | or that' '# from 3'
+in_program before-the-look '# list' '# table' '# never data 00' '# never nonsense' '# may data 00'
+in_program no-command '# refused'
+untaken 3 again '# refused' '# begin' '# refused' 'vstore 0 01' '# look'
+untaken 3 again '# begin' 'vstore 0 01' '# begin' '# look'
+in_program spelling '# look now' '#look' '# Look' '#LIST' '#refused' '# refused now' '# Begin' '# begin now' '# idle' '#never data 00' '# NEVER _' '# Never this | or that' '# from 3'
 in_program toolong "$(printf '%65537s')"
 
 # in_look REASON LINE..: or a look of two reads.
@@ -124,13 +127,14 @@ in_look() {
     for line in "${@:2}"; do untaken 5 "$1" 'vstore 0 01' '# look' 'vload 0 1' 'bread 0 1' "$line" 'vload 0 1'; done
 }
 
-in_look not-in-a-look 'vstore 0 01' 'vsync 0 1' 'bexists 0' 'load 0 0 1' list 'cut in 1'
+in_look not-in-a-look '# begin' '# refused' 'vstore 0 01' 'vsync 0 1' 'bexists 0' 'load 0 0 1' list 'cut in 1'
 in_look command nonsense
 in_look again '# look'
 in_look spelling '# list now' '# table now' '#table' '#never data 00 | _'
 in_look 'replies 1 of 2' '# never data 00'
 in_look 'replies 3 of 2' '# never data 00 | _ | _'
-in_look 'reply 1' '# never' '# never refused device | _' '# never data 0 | _' '# never data 00*65537 | _' '# never ok | _' '# never _|_'
+in_look nothing-asked '# may _ | _'
+in_look 'reply 1' '# never' '# may' '# never refused device | _' '# never data 0 | _' '# never data 00*65537 | _' '# never ok | _' '# never _|_'
 in_look 'reply 2' '# never _ |'
 in_look 'reply 1 kind' '# never scarred 0 | _' '# never poison file f 0 64 | _'
 in_look 'reply 2 kind' '# never _ | poison volume 0 64'
