@@ -1,13 +1,10 @@
 -- What was made durable stays: by induction over a run.
-use Rattle.std.proofs.Common.{◌≡◌, ◌⊎◌, inl, inr, ℕ, ◌/◌, ◌%◌, ◌&&◌, ◌||◌, Bool, true, false, Option, Some, None, List, [], ◌∷◌, ◌++◌, refl, sym, ap, subst, ◌∙◌, if◌then◌else◌}
+use Rattle.std.proofs.Common.{◌≡◌, ◌⊎◌, inl, inr, ℕ, ◌&&◌, ◌||◌, Bool, true, false, Option, Some, None, List, [], ◌∷◌, ◌++◌, refl, sym, ap, subst, ◌∙◌, if◌then◌else◌}
 use Rattle.std.proofs.lemmas.Bool.{both_ways, or_parts, or_right}
 use Rattle.line_words.specs.declared.interruption.Interruption.{Interruption}
 use Rattle.line_words.specs.declared.interruption.Interruption.TheVariants.{Failed, PowerLost as Lost}
 use Rattle.reply_text.specs.Answer.{Answer}
 use Rattle.reply_text.specs.Answer.Answer.{Done}
-use Rattle.nvm_model.specs.Cell.{Cell}
-use Rattle.nvm_model.specs.Cell.Cell.{Bad, Kept}
-use Rattle.nvm_model.specs.Page.{Page, cell_of}
 use Rattle.nvm_model.specs.Storage.{Mapping}
 use Rattle.script_text.specs.Action.{Action}
 use Rattle.script_text.specs.Action.Action.{PoisonBlock, PoisonFile, PoisonMeta, PoisonVolume, WeakenFile, WeakenVolume, Cut, CutIn, FailIn, Restart, Recover, Attr}
@@ -36,10 +33,11 @@ use Rattle.durable.proofs.SuitLemmas.{nowhere}
 use Rattle.durable.proofs.StepLemmas.{geometry_run, geometry_step, nothing_run, step_of}
 use Rattle.durable.proofs.StepKinds.Step.{idles, alters, stops, returns, remounts, empties}
 use Rattle.durable.proofs.MappedLemmas.{AreAlike, alike_then, begun_on, changed_alike, durable_alike, mappings-heard, none-asked, not_begun, once}
-use Rattle.durable.proofs.LineLemmas.{HasOrLost, LineKeeps, MayBe}
-use Rattle.durable.proofs.VolumeLemmas.{VolumeKeeps, there-kept}
+use Rattle.durable.proofs.LineLemmas.{HasOrLost, MayBe}
+use Rattle.durable.proofs.VolumeLemmas.{there-kept}
 use Rattle.durable.proofs.SparedLemmas.{KeptBy, SparedBy}
 use Rattle.durable.proofs.KeepLemmas.{Keeps, PlaceKeeps, keeps-step, keeps_byte}
+use Rattle.durable.proofs.WeakerLemmas.{since_then, weaker}
 use Rattle.durable.proofs.CoverLemmas.{covered_place}
 use Rattle.durable.proofs.ReadLemmas.{has}
 use Rattle.durable.proofs.RefusalLemmas.{is_on, refused_told}
@@ -168,7 +166,7 @@ worn-begun geo x weak false one rest none = (λ is. cc is, none)
 module _ (lost cut : Bool) where
   -- what may have become of a line that is weak, or is not
   abbrev since : Bool → MayBe
-  since weak = record { weak = weak; lost = lost; cut = cut }
+  since weak = since_then lost cut weak
 
   -- no command changes the place, and its line is lost only where it may be
   abbrev Allowed : Geometry → Place → Bool → List Begun → Type 0
@@ -210,31 +208,6 @@ module _ (lost cut : Bool) where
       | inl none ↦ inl (ap (λ covered. weak && wears_out covered x) (durable_alike geo action one other alike) ∙ none)
       | inr may ↦ inr may
     ];
-  }
-
-  -- a line that is not weak may be one that is
-  line-weaker : (o : Option Cell) (i : ℕ) (v : Option ℕ) → LineKeeps (since false) o i v → LineKeeps (since true) o i v
-  line-weaker None i v keeps = keeps
-  line-weaker (Some Bad) i v keeps = keeps
-  line-weaker (Some (Kept weak words)) i v keeps = (λ is. refl, record { history = keeps.1.history; there = keeps.1.there; word = keeps.1.word })
-
-  pages-weaker : (pages : List Page) (i : ℕ) (v : Option ℕ) → VolumeKeeps (since false) pages i v → VolumeKeeps (since true) pages i v
-  pages-weaker pages i v (inl keeps) = inl (record { absent = keeps.absent; zero = keeps.zero })
-  pages-weaker pages i v (inr keeps) = inr (line-weaker (cell_of pages (i / 64)) (i % 64) v keeps)
-
-  place-weaker : (h : Machine) (x : Place) (v : Option ℕ) → PlaceKeeps (since false) h x v → PlaceKeeps (since true) h x v
-  place-weaker h (of_volume i) v keeps = pages-weaker h.volume i v keeps
-  place-weaker h (of_blocks i) v keeps = keeps
-  place-weaker h (of_file name i) v keeps = pages-weaker (pages_named name h.files) i v keeps
-
-  weaker : (h : Machine) (x : Place) (v : Option ℕ) (weak weakened : Bool) → (weakened ≡ true → h.interrupted ≡ None) → Keeps (since weak) h x v → Keeps (since (weak || weakened)) h x v
-  weaker h x v true weakened free keeps = keeps
-  weaker h x v false false free keeps = keeps
-  weaker h x v false true free keeps = record {
-    place = place-weaker h x v keeps.place;
-    spared = subst (λ o. SparedBy (since true) h.geometry h.mappings o x) (sym (free refl)) tt;
-    fine = keeps.fine;
-    settled = keeps.settled;
   }
 
   -- the power may be cut, or it is on and stays so
@@ -279,7 +252,7 @@ module _ (lost cut : Bool) where
             weaken = λ weakened. or_right weak (weakens action x) weakened;
             cover = covers weak (weakens action x) refl (allows.worn begun);
           }) off
-          (weaker h x v weak (weakens action x) (λ weakened. keeps.settled (is_on h action (weakens_usable action x weakened) (allowed is))) keeps) step
+          (weaker lost cut h x v weak (weakens action x) (λ weakened. keeps.settled (is_on h action (weakens_usable action x weakened) (allowed is))) keeps) step
 
   -- the mappings are those that were told, and the commands that are left are allowed
   record Follows (h : Machine) (mappings : List Mapping) (weak : Bool) (x : Place) (inputs : List Input) (answers : List Answer) : Type 0 where

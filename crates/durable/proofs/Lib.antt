@@ -49,3 +49,4 @@ pub mod ToldLemmas
 pub mod OrderLemmas
 pub mod FoundLemmas
 pub mod WithinLemmas
+pub mod WeakerLemmas
