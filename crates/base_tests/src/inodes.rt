@@ -56,7 +56,7 @@ fn names_that_differ_in_their_last_byte_are_two(rt: HostRuntime) -> Result<(), F
     Ok(())
 }
 
-// Which words are put over two files, and the index that is told.
+// Which words are put over two files, and the index that is reported.
 static WRONG: [(&[(usize, u64)], u64); 10] = [
     (&[(0, 258), (1, 0)], 0),
     (&[(1, 0), (5, 1)], 1),

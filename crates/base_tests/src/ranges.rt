@@ -9,7 +9,7 @@ fn span(start: u64, len: u64) -> Span {
     Span { start, len }
 }
 
-// The set of two ranges, each told by its start and its length.
+// The set of two ranges, each given by its start and its length.
 fn two(rt: &impl Abort, alloc: Global, ranges: [u64; 4]) -> Result<RangeSet, RangeFault> {
     let [start, len, other, more] = ranges;
     assert!(rt; start < 1 << 32 && len < 1 << 32);

@@ -1,4 +1,4 @@
-// Calls of a device, each made only where the line is there and the power is on; else they tell that there is none.
+// Calls of a device, each made only where the line exists and the power is on; else they report that it can't be made.
 use line_device::{Choice, DeviceFault, LineDevice, LineState, Lines, Peek};
 use nvm_base::LineNo;
 use std::alloc::AllocError;

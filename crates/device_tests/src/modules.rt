@@ -1,4 +1,4 @@
-// Memory modules, told by what a caller sees.
+// Memory modules, as a caller sees them.
 use crate::calls::{byte, cycle, store, weaken};
 use crate::stories::{Act, Step, follow};
 use line_device::{Choice, DeviceFault, LineDevice, LineState};
@@ -16,7 +16,7 @@ fn new(alloc: Global, lines: u64) -> Result<Module, Fail> {
     Ok(device)
 }
 
-// What line 1 has after so many stores of rising values and a restart.
+// What line 1 has after this number of stores of rising values and a restart.
 fn kept(alloc: Global, weak: bool, stores: u8, choice: Choice) -> Result<u8, Fail> {
     let mut device = new(alloc, 3)?;
     if weak {

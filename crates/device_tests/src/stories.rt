@@ -42,7 +42,7 @@ fn told(answer: Result<(), DeviceFault>) -> Told {
     Ok(0)
 }
 
-// Want of memory is told as a failure here.
+// Out of memory is reported as a failure here.
 fn install<D: LineDevice>(device: &mut D, line: u64, state: &LineState) -> Told {
     if line >= device.lines() {
         return Err(DeviceFault::PowerLost);

@@ -214,7 +214,7 @@ pub fn a_stopped_write_is_whole_or_not()
         → byte_at_place later (of_volume i) ≡ Some 0 }
 {}
 
-/// Media errors of files are told once, in the order in which they came, and are found again at a mount. While nothing is mounted again,
+/// Media errors of files are reported once, in the order in which they came, and are found again at a mount. While nothing is mounted again,
 /// what is told, and then what is still to be told, is what was to be told and then what came. One event comes of each line of a
 /// file that goes bad, and no other; a bad line that another name gets is no news. In mode On `event` tells the oldest, where there is one.
 /// After a mount there is an event of each bad line of the files that there are then.
@@ -233,7 +233,7 @@ pub fn media_errors_are_told_once()
         → FindsAnew next }
 {}
 
-/// Which handle is of which file is told by the commands and their answers: the mappings of each later state are those, but for the
+/// The commands and their answers say which handle is of which file: the mappings of each later state are those, but for the
 /// bytes of copies. What a command makes durable is the same whatever copies have. Each mapping lies within its file.
 pub fn what_is_mapped_is_told()
     ensures within { (h later : Machine) (inputs : List Input) (said : Transcript) → AreWithin h.mappings h.files → Run h inputs said later

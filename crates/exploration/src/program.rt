@@ -104,7 +104,7 @@ impl Program {
     }
 }
 
-// So many lines without a command.
+// Lines without a command, of this number.
 fn no_commands(alloc: Global, n: usize) -> Result<Vec<Option<Command>>, AllocError>
     ensures { IfOk result (λ lines. lines.items ≡ replicate n None) }
 {

@@ -1,4 +1,4 @@
-// One question, on a device made anew of the image.
+// One question, on a device made again of the image.
 ghost use Rattle.std.specs.Prelude.{◌≡◌, ℕ, IfErr, IfOk, List, OnOk};
 ghost use Rattle.outcome_lists.specs.OutcomeTest.Seen.{Seen};
 ghost use Rattle.outcome_lists.specs.AskedReads.Asking.{IsLook};

@@ -26,7 +26,7 @@ use script_text::Command;
 use std::alloc::{AllocError, Global};
 
 /// Reports the lines whose commands are refused, but for those of which that is wanted, and the wanted ones that are done: those of
-/// the first lines, and then those of the program behind them. Both are numbered from 1 on, and the marks are of both.
+/// the first lines, and then those of the program after them. Both are numbered from 1 on, and the marks are of both.
 pub fn report_refusals<D: LineDevice>(
     alloc: Global,
     host: &mut Host,

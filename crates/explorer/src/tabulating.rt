@@ -23,7 +23,7 @@ use script_text::Command;
 use std::alloc::Global;
 use value_tables::table_of;
 
-/// The table of the reads, as it is printed, of the program behind the first lines, which are performed before.
+/// The table of the reads, as it is printed, of the program after the first lines, which are performed before.
 pub fn tabulate<D: LineDevice>(
     alloc: Global,
     host: &mut Host,

@@ -60,7 +60,7 @@ pub(crate) fn spoil<L: Lines>(dev: &mut L, line: u64) {
     }
 }
 
-// Makes a file of so many pages, all of them holes.
+// Makes a file of this number of pages, all of them holes.
 pub(crate) fn make<L: Lines>(
     alloc: Global,
     dev: &mut L,

@@ -1,4 +1,4 @@
-// Stories of files on a plain device, told by what a caller sees.
+// Stories of files on a plain device, as a caller sees them.
 ghost use Rattle.std.specs.Prelude.{IfOk, IsTrue};
 ghost use Rattle.line_device.specs.Plain.{device_of};
 ghost use Rattle.file_journal.specs.Object.{JournalServes};
@@ -37,7 +37,7 @@ fn name(text: &[u8]) -> Result<Name, JournalFault> {
     Name::read(text).ok_or(JournalFault::Missing)
 }
 
-// The names of the file before the change and behind it.
+// The names of the file before the change and after it.
 fn names(change: Change) -> Result<(Name, Name), JournalFault> {
     let (file, to) = match change {
         Change::Create(file, _) => (file, file),
@@ -135,7 +135,7 @@ fn begun(alloc: Global, choice: Choice) -> Result<(Journal, Plain), Fail>
     Ok((journal, device))
 }
 
-// Gives it the name `settings` behind a fuse of so many calls.
+// Gives it the name `settings` on a fuse of this number of calls.
 fn rename_behind<D: LineDevice>(
     journal: &mut Journal,
     dev: D,

@@ -1,4 +1,4 @@
-//! Tests of files: their journal, their bytes, native actions on them and mappings, on plain devices and behind fuses.
+//! Tests of files: their journal, their bytes, native actions on them and mappings, on plain devices and on fuses.
 #![tactic(auto)]
 
 #[cfg(test)]

@@ -1,4 +1,4 @@
-// What is told of the mappings of a file of two holes, on a plain device.
+// What is reported of the mappings of a file of two holes, on a plain device.
 ghost use Rattle.std.specs.Prelude.{◌≡◌, IfOk};
 ghost use Rattle.line_device.specs.Plain.{device_of};
 ghost use Rattle.file_pages.specs.Object.{PagesServe};

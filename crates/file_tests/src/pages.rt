@@ -21,11 +21,11 @@ mod lines;
 mod shown;
 mod stories;
 
-// Acts by offsets and lengths in bytes; what is stored or written is so many bytes of one value.
+// Acts by offsets and lengths in bytes; what is stored or written is bytes of one value.
 #[derive(Clone, Copy)]
 enum Act {
     Store(u64, usize, u8),
-    // Whether the bytes from an offset on are these: so many of one value, then so many of the next one.
+    // Whether the bytes from an offset on are these: some of one value, then some of the next one.
     Shows(u64, &'static [(usize, u8)]),
     Persist(u64, u64),
     Write(u64, usize, u8),
@@ -67,7 +67,7 @@ fn open<D: LineDevice>(alloc: Global, dev: &mut D, choice: Choice) -> Result<Fil
     FilePages::mount(alloc, dev, SMALL)
 }
 
-// So many bytes of one value; no act here has more.
+// Bytes of one value; no act here has more.
 fn many(bytes: &[u8; 4098], len: usize) -> &[u8] {
     bytes.get(..len).unwrap_or(&[])
 }

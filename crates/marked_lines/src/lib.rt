@@ -1,4 +1,4 @@
-//! Lines that are bad, or weak: counted, and of files found and told as events.
+//! Lines that are bad, or weak: counted, and of files found and reported as events.
 // None of this changes the device, or makes a counted call.
 #![tactic(auto)]
 

@@ -33,7 +33,7 @@ pub fn each_outcome_is_listed()
     ensures { (h : Machine) (program : List Input) (parts : List Read) (o : Outcome) → IsFound h program parts o → Contains (outcomes_of h program parts) o }
 {}
 
-/// No outcome stands twice in a list, so that its length is how many there are: of a program behind first lines that begin where all
+/// No outcome stands twice in a list, so that its length is how many there are: of a program after first lines that begin where all
 /// is durable, as in an image that was opened, and where what the commands bring are bytes.
 pub fn no_outcome_stands_twice()
     ensures { (h : Machine) (first program : List Input) (parts : List Read) → AreDurable h.volume → HaveDurable h.files

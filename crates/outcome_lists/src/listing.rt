@@ -29,7 +29,7 @@ use nvm_base::Bytes;
 use script_text::Command;
 use std::alloc::{AllocError, Global};
 
-/// The list of what the reads may find, as it is printed, of the program behind the first lines, which are performed before.
+/// The list of what the reads may find, as it is printed, of the program after the first lines, which are performed before.
 pub fn list_outcomes<D: LineDevice>(
     alloc: Global,
     host: &mut Host,

@@ -16,7 +16,7 @@ mod pieces;
 mod recording;
 mod workloads;
 
-// So many times the text.
+// The text, repeated this number of times.
 fn repeated(alloc: Global, text: &str, count: u64) -> Result<Bytes, AllocError> {
     let mut bytes = Bytes::new(alloc);
     for _ in 0..count {
@@ -41,7 +41,7 @@ fn call<D: LineDevice>(
     Ok(nvmhost(alloc, &list, device, images, script, replies))
 }
 
-// The replies to a script over an image, where it comes in pieces of so many bytes.
+// The replies to a script over an image, where it comes in pieces of this size.
 fn replies_to<D: LineDevice>(
     alloc: Global,
     device: &mut D,

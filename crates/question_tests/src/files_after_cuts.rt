@@ -20,7 +20,7 @@ enum Found {
 // The file of a read, its first byte, and what it finds.
 type Look = (&'static str, u32, Found);
 
-// The lines of a program, the line behind them in which the power goes, empty for none, what is read, and whether that may be.
+// The lines of a program, the line after them in which the power goes, empty for none, what is read, and whether that may be.
 type Trial = (&'static str, &'static str, &'static [Look], bool);
 
 const RENAMED: &str = "create t 1\nfwrite t 0 07*8\nrename t f";

@@ -1,4 +1,4 @@
-// What is kept of lines, blocks and files, as it is told.
+// What is kept of lines, blocks and files, as it is reported.
 
 use asked_reads::{FileRead, PageRead, PageReply, Question};
 use block_sights::{HeldBlock, Unreadable};

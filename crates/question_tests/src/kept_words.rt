@@ -43,7 +43,7 @@ const FIRST: [bool; 8] = [true, false, false, false, false, false, false, false]
 const FIRST_TWO: [bool; 8] = [true, true, false, false, false, false, false, false];
 
 // Each with what a read of byte 1 finds, none for a bad line; how the line is left, which is the first value of each word on which
-// all reads agree; which of its words the cut could have left otherwise; and what is told.
+// all reads agree; which of its words the cut could have left otherwise; and what is reported.
 static TRIALS: [(Held, Option<u8>, LineLeft, [bool; 8], &str); 4] = [
     (
         STORED,

@@ -1,4 +1,4 @@
-//! Tests of what answers a question: what a cut may leave, how that is told, tables, and the scripts and lines that ask.
+//! Tests of what answers a question: what a cut may leave, how that is reported, tables, and the scripts and lines that ask.
 #![tactic(auto)]
 
 #[cfg(test)]

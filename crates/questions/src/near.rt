@@ -8,7 +8,7 @@ use crate::parts::after_bar;
 use crate::words::next_word;
 use nvm_base::read_number;
 
-// Whether it looks as if this word, and what is behind it, were to ask something.
+// Whether it looks as if this word, and what follows it, were to ask something.
 pub(crate) fn is_near(word: &[u8], rest: &[u8]) -> bool
     ensures { result ≡ is_near word.now (words_of rest.now) }
 {

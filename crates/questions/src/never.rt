@@ -30,7 +30,7 @@ pub(crate) fn read_replies(alloc: Global, words: &[u8]) -> Result<Replies, Quest
     Ok(replies)
 }
 
-// The number of the reply behind these. No memory holds more of them than there are numbers.
+// The number of the reply after these. No memory holds more of them than numbers exist.
 fn next_number(replies: &Replies) -> Result<u64, QuestionFault>
     ensures number { IfOk result (λ number. number ≡ length replies.now.items + 1) }
     ensures cause { IfErr result (λ e. e ≡ QuestionFault.Memory) }

@@ -24,7 +24,7 @@ pub(crate) const SMALL: Geometry = Geometry {
 // The lines of the small device.
 pub(crate) const LINES: u64 = 5184;
 
-// The line is there and can be used, and the power is on.
+// The line exists and can be used, and the power is on.
 fn is_good<L: Lines>(dev: &L, line: u64) -> bool
     ensures good_line { IsTrue result → IsGoodLine (L.state dev.now).medium line }
     ensures on { IsTrue result → IsTrue (L.state dev.now).panel.power }
@@ -46,7 +46,7 @@ pub(crate) fn write<L: Lines>(dev: &mut L, words: &[(u64, u64)]) -> bool {
     true
 }
 
-// A device of so many lines with the superblock of the small one, and else of zeros.
+// A device of this number of lines with the superblock of the small one, and else of zeros.
 pub(crate) fn fresh(alloc: Global, lines: u64) -> Result<Plain, Fail>
     requires some { 1 ≤ lines }
     requires few { lines ≤ 118016 }

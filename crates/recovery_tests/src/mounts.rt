@@ -1,4 +1,4 @@
-// Mounts of plain devices, told by what a caller sees.
+// Mounts of plain devices, as a caller sees them.
 ghost use Rattle.std.specs.Prelude.{IsTrue};
 ghost use Rattle.block_device.specs.Object.{BlocksServe};
 

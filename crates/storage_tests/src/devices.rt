@@ -27,7 +27,7 @@ pub(crate) const SMALL_LINES: u64 = 5184;
 
 pub(crate) const LARGE_LINES: u64 = 118016;
 
-// A device of so many lines of zeros.
+// A device of this number of lines of zeros.
 pub(crate) fn fresh(alloc: Global, lines: u64) -> Result<Plain, ResetFault>
     requires some { 1 ≤ lines }
     requires few { lines ≤ 118016 }

@@ -1,4 +1,4 @@
-//! Tests of views, of lines of pages, of blocks and of volumes, on plain devices and behind fuses.
+//! Tests of views, of lines of pages, of blocks and of volumes, on plain devices and on fuses.
 #![tactic(auto)]
 
 #[cfg(test)]

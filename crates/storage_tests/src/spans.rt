@@ -81,7 +81,7 @@ fn find<L: Lines>(dev: &L, start: u64, len: u64, which: BadLines) -> Option<u64>
     lowest_bad(dev, &Whole { count: 4 }, Span { start, len }, which)
 }
 
-// What is done with the lines, by offsets and lengths in bytes; what is put is so many bytes of one value.
+// What is done with the lines, by offsets and lengths in bytes; what is put is bytes of one value.
 #[derive(Clone, Copy)]
 enum Act {
     Put(u64, usize, u8),
@@ -104,18 +104,18 @@ enum Act {
 // What it tells.
 #[derive(Clone, Copy, Debug, PartialEq, Eq)]
 enum Told {
-    // So many calls of the device, and how many of them made a line durable.
+    // Calls of the device, and how many of them made a line durable.
     Done(u64, u64),
     Is(bool),
     Found(Option<u64>),
-    // So many bytes of one value, and then zeros.
+    // Bytes of one value, and then zeros.
     Healthy(usize, u8),
     Weak(usize, u8),
     Bad,
     Stopped(Interruption),
 }
 
-// So many bytes of one value; no act here has more.
+// Bytes of one value; no act here has more.
 fn many(bytes: &[u8; 256], len: usize) -> &[u8] {
     bytes.get(..len).unwrap_or(&[])
 }
@@ -154,7 +154,7 @@ fn shows<L: Lines>(dev: &mut L, offset: u64, wanted: [u8; 8]) -> Told {
     }
 }
 
-// How many bytes at the front are the first one; 0 where others than zeros are behind them.
+// How many bytes at the front are the first one; 0 where others than zeros follow them.
 fn front(bytes: &[u8; 64]) -> usize {
     let mut count: usize = 0;
     for byte in bytes {

@@ -95,7 +95,7 @@ fn byte_at<L: Lines>(volume: &mut Volume, dev: &mut L, offset: u64) -> Told
     Ok(out[0] as u64)
 }
 
-// So many bytes of one value; no act here has more.
+// Bytes of one value; no act here has more.
 fn many(bytes: &[u8; 4098], len: usize) -> Result<&[u8], VolumeFault> {
     bytes.get(..len).ok_or(VolumeFault::Device)
 }

@@ -59,7 +59,7 @@ fn is_listed(alloc: Global, journal: &Journal, files: Listed) -> Result<bool, Al
     Ok(same && list.len() == files.len() as u64)
 }
 
-// Whether the files are these after a cut and a change, of which nothing else is told.
+// Whether the files are these after a cut and a change, of which nothing else is reported.
 fn lists_changed(
     alloc: Global,
     dev: &mut Plain,

@@ -1,4 +1,4 @@
-// Acts behind fuses of so many calls, until one ends well.
+// Acts on fuses of 0, 1, 2 .. calls, until one ends well.
 ghost use Rattle.std.specs.Prelude.{◌≡◌, IfOk, IsTrue};
 ghost use Rattle.line_device.specs.Plain.{device_of};
 ghost use Rattle.file_journal.specs.Tables.{known_units};
@@ -13,7 +13,7 @@ use std::alloc::Global;
 use std::test::Fail;
 use test_devices::Fuse;
 
-// A store that makes the file's lines what they are, of which the line of one byte gets weak; an act behind a fuse; and looks at
+// A store that makes the file's lines what they are, of which the line of one byte gets weak; an act on a fuse; and looks at
 // what it left, of which each tells 1 for what is so.
 #[derive(Clone, Copy)]
 struct Trial {
@@ -48,7 +48,7 @@ fn prepare(alloc: Global, device: &mut Plain, choice: Choice, trial: Trial) -> b
 // No byte of the file.
 const NONE: u64 = u64::MAX;
 
-// Performs an act behind a fuse of so many calls.
+// Performs an act on a fuse of this number of calls.
 fn perform_behind<D: LineDevice>(
     files: &mut FilePages,
     dev: D,
@@ -83,7 +83,7 @@ fn is_cut(told: Told) -> bool {
     told == Told::Page(PageFault::PowerLost) || told == Told::Action(ActionFault::PowerLost)
 }
 
-// Whether the act behind a fuse of so many calls ended well, and what the looks tell after a restart.
+// Whether the act on a fuse of this number of calls ended well, and what the looks report after a restart.
 fn outcome(
     alloc: Global,
     trial: Trial,

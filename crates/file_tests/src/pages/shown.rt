@@ -11,7 +11,7 @@ use line_device::Lines;
 // No act here loads more.
 const MOST: usize = 4098;
 
-// So many bytes of one value, then so many of the next one, and how many these are.
+// Bytes of one value, then bytes of the next one, and how many these are.
 fn spread(runs: &[(usize, u8)]) -> (usize, [u8; MOST]) {
     let mut bytes = [0xee; MOST];
     let mut at: usize = 0;

@@ -1,4 +1,4 @@
-// What is told of a file of three pages, step by step.
+// What is reported of a file of three pages, step by step.
 use super::calls::first_byte;
 use super::lines::spoil;
 use super::{Act, Told, open, perform, with_file};
@@ -10,7 +10,7 @@ use std::alloc::Global;
 use std::process::Abort;
 use std::test::Fail;
 
-// What is done and what it tells, after a cut; media errors take the lines of some bytes behind it.
+// What is done and what it reports, after a cut; media errors take the lines of some bytes after it.
 #[derive(Clone, Copy)]
 pub(super) struct Part {
     pub(super) choice: Choice,

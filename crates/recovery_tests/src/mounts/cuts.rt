@@ -79,7 +79,7 @@ fn first_mount<L: Lines>(alloc: Global, dev: &mut L) -> Result<Option<MountFault
     Ok(mount(alloc, dev).err())
 }
 
-// How a mount of a device ends that is cut at the call after so many, and whether what its logs say is there once it is begun again.
+// How a mount of a device ends that is cut at the call after this number, and whether what its logs say stands once it is begun again.
 fn cut(alloc: Global, choice: Choice, calls: u64) -> Result<(Option<MountFault>, bool), Fail> {
     let mut fuse = Fuse::new(with_words(alloc, &OPEN)?, calls);
     let fault = first_mount(alloc, &mut fuse)?;

@@ -127,7 +127,7 @@ static WRONG_WORDS: [(&[(u64, u64)], &[Loss], MountFault); 19] = [
     (&[(1744, 1)], &[], MountFault::Layout(1744)),
     (&[(1744, 1), (673, 2)], &[], MountFault::Layout(673)),
     (&[(1232, 1), (144, 74)], &[], MountFault::Layout(144)),
-    // entries at a presence word past the four pages, and at the first line behind the page tables
+    // entries at a presence word past the four pages, and at the first line after the page tables
     (
         &[(153, 1), (160, 676), (161, 1), (152, 1)],
         &[],

@@ -1,4 +1,4 @@
-// What is told of blocks on a plain device, step by step.
+// What is reported of blocks on a plain device, step by step.
 ghost use Rattle.std.specs.Prelude.{◌<◌};
 ghost use Rattle.word_tables.specs.Bounds.{IsValid};
 
@@ -41,7 +41,7 @@ static STORIES: [&[Step]; 5] = [
         (Act::Read(1), Ok(0)),
         (Act::Exists(1), Ok(0)),
     ],
-    // A bad line of a block is told, and written over.
+    // A bad line of a block is reported, and written over.
     &[
         (Act::Write(3, 512, 7), Ok(0)),
         (Act::SpoilIn(3, 5), Ok(0)),
@@ -82,7 +82,7 @@ static STORIES: [&[Step]; 5] = [
     ],
 ];
 
-// Ranges get their parts of the bytes; then the same blocks, mounted anew.
+// Ranges get their parts of the bytes; then the same blocks, mounted again.
 static TOGETHER: [&[Step]; 2] = [
     &[
         (Act::AtOnce(2, 1024, 5), Ok(0)),

@@ -11,7 +11,7 @@ use std::alloc::Global;
 use std::test::Fail;
 use test_devices::Fuse;
 
-// Performs an act behind a fuse of so many calls.
+// Performs an act on a fuse of this number of calls.
 fn perform_behind<D: LineDevice>(
     volume: &mut Volume,
     dev: D,

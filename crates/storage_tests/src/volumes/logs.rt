@@ -1,4 +1,4 @@
-// An append-only log behind fuses of 0, 1, 2 .. calls: what a restart finds of it.
+// An append-only log on fuses of 0, 1, 2 .. calls: what a restart finds of it.
 ghost use Rattle.std.specs.Prelude.{IfOk, IsTrue};
 ghost use Rattle.append_log.specs.Log.{LogServes};
 ghost use Rattle.line_device.specs.Plain.{device_of};
@@ -49,7 +49,7 @@ fn get<L: Lines>(log: &mut AppendLog, dev: &mut L, index: u64) -> Result<Record,
     log.get(dev, index)
 }
 
-// Appends a record behind a fuse of so many calls.
+// Appends a record on a fuse of this number of calls.
 fn append_behind<D: LineDevice>(
     log: &mut AppendLog,
     dev: D,
@@ -105,7 +105,7 @@ fn outcome(
     Ok((answer.is_ok(), len, last.as_slice() == wanted))
 }
 
-// The record that is there before, and between how many calls the append ends: one in a page that exists takes 4, and the first
+// The record that stands before, and between how many calls the append ends: one in a page that exists takes 4, and the first
 // one of a page fills it.
 static CUTS: [(Option<&[u8]>, u64, u64); 2] = [(Some(b"first"), 0, 8), (None, 60, 100)];
 
@@ -137,7 +137,7 @@ const NO_LINE: u64 = u64::MAX;
 // What keeps a record from being read, and the next one from being appended.
 type Told = (Option<LogFault>, Option<LogFault>);
 
-// A line that went bad and one that got weak after the first record, and what is told then. Line n of the volume is line
+// A line that went bad and one that got weak after the first record, and what is reported then. Line n of the volume is line
 // 2304 + n of the device.
 static MEDIA: [(u64, u64, Result<Told, LogFault>); 5] = [
     (NO_LINE, NO_LINE, Ok((None, None))),
