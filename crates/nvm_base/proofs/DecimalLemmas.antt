@@ -55,5 +55,8 @@ number_of-decimal n small =
     let spells = Spells-decimal n below in
     number_of-within (decimal n) some short ∙ ap (option_and_then (λ m. if nat_lt m (2 ^ 32) then Some m else None)) spells.value ∙ ap (λ b. if b then Some n else None) fits
 
+pub digits_after-decimal : (n : ℕ) → n < 2 ^ 64 → digits_after 0 (decimal n) ≡ Some n
+digits_after-decimal n small = let spells = Spells-decimal n small in spells.value
+
 pub decimal-digits : (n : ℕ) → n < 2 ^ 64 → list_all is_ascii_digit (decimal n) ≡ true
 decimal-digits n small = let spells = Spells-decimal n small in spells.digits

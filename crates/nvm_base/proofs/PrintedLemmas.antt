@@ -4,7 +4,7 @@ use Rattle.std.specs.List.{list_all, slice_split, join_with_byte}
 use Rattle.std.proofs.lemmas.List.Folds.{list_all-append}
 use Rattle.nvm_base.specs.Data.{ByteRun, byte_count, spelled, items_of, runs_of, within, data_within, onto, runs_in, run_text, data_text}
 use Rattle.nvm_base.proofs.SplitLemmas.{list_all-weaker, split-alone, split-before}
-use Rattle.nvm_base.proofs.RunTextLemmas.{is_item_byte, IsProper, item_of-run_text, run_text-items, run_text-injective}
+use Rattle.nvm_base.proofs.RunTextLemmas.{is_item_byte, IsProper, item_of-run_text, run_text-items}
 
 -- each run is
 AreProper : List ByteRun → Type 0
@@ -67,7 +67,7 @@ items_of-runs (r ∷ rs) h small =
     let rest = items_of-runs rs h.1 (omega arith) in
     rw (first, rest) refl
 
-split-joined : (r : ByteRun) (rs : List ByteRun) → AreProper (r ∷ rs) → byte_count (r ∷ rs) < 2 ^ 64 → slice_split (λ c. c == 44) (joined (r ∷ rs)) ≡ map run_text (r ∷ rs)
+split-joined : (r : ByteRun) (rs : List ByteRun) → AreProper (r ∷ rs) → byte_count (r ∷ rs) < 2 ^ 32 → slice_split (λ c. c == 44) (joined (r ∷ rs)) ≡ map run_text (r ∷ rs)
 unfolding AreProper
 split-joined r [] h small =
     split-alone (λ c. c == 44) (run_text r) (list_all-weaker is_item_byte _ no_comma (run_text r) (run_text-items r h.0 (omega arith)))
@@ -82,7 +82,7 @@ is_data_byte c = is_item_byte c || c == 44
 item_data : (c : ℕ) → is_item_byte c ≡ true → is_data_byte c ≡ true
 item_data c e = rw e refl
 
-joined-bytes : (rs : List ByteRun) → AreProper rs → byte_count rs < 2 ^ 64 → list_all is_data_byte (joined rs) ≡ true
+joined-bytes : (rs : List ByteRun) → AreProper rs → byte_count rs < 2 ^ 32 → list_all is_data_byte (joined rs) ≡ true
 unfolding AreProper
 joined-bytes [] h small = refl
 joined-bytes (r ∷ []) h small = list_all-weaker is_item_byte is_data_byte item_data (run_text r) (run_text-items r h.0 (omega arith))
@@ -95,32 +95,8 @@ joined-some : (r : ByteRun) (rs : List ByteRun) → 0 < length (joined (r ∷ rs
 joined-some r [] = omega arith
 joined-some r (q ∷ rs) = omega arith
 
-runs_told : (rs qs : List ByteRun) → AreProper rs → AreProper qs → byte_count rs < 2 ^ 64 → byte_count qs < 2 ^ 64 → map run_text rs ≡ map run_text qs → rs ≡ qs
-unfolding AreProper
-runs_told [] [] h g low high is = refl
-runs_told [] (q ∷ qs) h g low high is = absurd (cc)
-runs_told (r ∷ rs) [] h g low high is = absurd (cc)
-runs_told (r ∷ rs) (q ∷ qs) h g low high is =
-    let first : r ≡ q = run_text-injective r q h.0 g.0 (cc) (omega arith) (omega arith) in
-    let rest : rs ≡ qs = runs_told rs qs h.1 g.1 (omega arith) (omega arith) (cc) in
-    cc
-
-joined_told : (rs qs : List ByteRun) → AreProper rs → AreProper qs → byte_count rs < 2 ^ 64 → byte_count qs < 2 ^ 64 → joined rs ≡ joined qs → rs ≡ qs
-joined_told [] [] h g low high is = refl
-joined_told [] (q ∷ qs) h g low high is = absurd (omega (arith, joined-some q qs, ap length is))
-joined_told (r ∷ rs) [] h g low high is = absurd (omega (arith, joined-some r rs, ap length is))
-joined_told (r ∷ rs) (q ∷ qs) h g low high is =
-    runs_told (r ∷ rs) (q ∷ qs) h g low high (sym (split-joined r rs h low) ∙ ap (slice_split (λ c. c == 44)) is ∙ split-joined q qs g high)
-
--- bytes are told by their DATA
-pub data_text-injective : (a b : List ℕ) → length a < 2 ^ 64 → length b < 2 ^ 64 → ((k : ℕ) → get_or a k 0 < 256) → ((k : ℕ) → get_or b k 0 < 256) → data_text a ≡ data_text b → a ≡ b
-unfolding data_text
-data_text-injective a b low high small more is =
-    let runs = joined_told (runs_in a) (runs_in b) (runs_in-proper a small) (runs_in-proper b more) (omega (arith, byte_count-runs_in a)) (omega (arith, byte_count-runs_in b)) is in
-    sym (spelled-runs_in a) ∙ ap spelled runs ∙ spelled-runs_in b
-
 -- they are DATA's bytes, also none
-pub data_text-bytes : (bytes : List ℕ) → length bytes < 2 ^ 64 → ((k : ℕ) → get_or bytes k 0 < 256) → list_all is_data_byte (data_text bytes) ≡ true
+pub data_text-bytes : (bytes : List ℕ) → length bytes < 2 ^ 32 → ((k : ℕ) → get_or bytes k 0 < 256) → list_all is_data_byte (data_text bytes) ≡ true
 unfolding data_text
 data_text-bytes bytes few small = joined-bytes (runs_in bytes) (runs_in-proper bytes small) (omega (arith, byte_count-runs_in bytes))
 
@@ -137,7 +113,7 @@ module _ (bytes : List ℕ) (some : 0 < length bytes) (most : length bytes < 2 ^
           → within room (items_of (slice_split (λ c. c == 44) (joined rs))) ≡ Ok bytes
       go [] h few count is = absurd (omega arith)
       go (r ∷ rs) h few count is =
-          let parts = split-joined r rs h (omega arith) in
+          let parts = split-joined r rs h few in
           let items = items_of-runs (r ∷ rs) h few in
           let fits : nat_le (byte_count (r ∷ rs)) room ≡ true = let low : byte_count (r ∷ rs) ≤ room = omega arith in search (rules, tests) in
           ap (λ items. within room (items_of items)) parts ∙ ap (within room) items ∙ rw (fits, within) (ap Ok is)
