@@ -1,6 +1,7 @@
 -- Lists whose items are each one of two.
-use Rattle.std.proofs.Common.{◌≡◌, ◌⊎◌, ◌+◌, ◌≤◌, inl, inr, ℕ, zero, suc, List, [], ◌∷◌, ◌++◌, length, slice_get, drop, refl, sym, ap, ◌∙◌, subst, arith}
-use Rattle.nvm_model.specs.Numbered.{AreMixed}
+use Rattle.std.proofs.Common.{◌≡◌, ◌⊎◌, ◌+◌, ◌-◌, ◌≤◌, inl, inr, ℕ, zero, suc, List, [], ◌∷◌, ◌++◌, length, slice_get, drop, refl, sym, ap, ◌∙◌, subst, arith}
+use Rattle.nvm_model.specs.Numbered.{AreMixed, list_from}
+use Rattle.nvm_model.proofs.NumberedLemmas.{length-list_from, list_from-append}
 
 module _ {A : Type 0} where
   pub mixed-none : (one other : List A) → AreMixed A one other one
@@ -64,3 +65,10 @@ module _ {A : Type 0} where
   mixed-part (f ∷ fs) one other mixed back same h =
       let rest = mixed-part fs one other mixed back same h in
       record { length = ap suc rest.length; each = one_more f (fs ++ (one ++ back)) (fs ++ (other ++ back)) (fs ++ (mixed ++ back)) rest.each }
+
+-- a buffer that is filled from its front on
+pub mixed-filled : (f : ℕ → ℕ) (start n len : ℕ) (s a : List ℕ) → n ≤ len → length s ≡ len → a ≡ list_from f start n ++ drop n s → AreMixed ℕ s (list_from f start len) a
+mixed-filled f start n len s a few size is =
+    let total : len ≡ n + (len - n) = omega (arith, few) in
+    mixed-front n (list_from f start n) (list_from f (start + n) (len - n)) s _ a (length-list_from f start n) (omega (arith, few, size))
+    (ap (list_from f start) total ∙ list_from-append f start n (len - n)) is
