@@ -1,5 +1,5 @@
 -- What a read that is stopped leaves in a buffer.
-use Rattle.std.proofs.Common.{◌≡◌, ◌+◌, ◌-◌, ◌*◌, ◌≤◌, ℕ, List, ◌++◌, length, take, drop, length-take, length-drop, Result, Ok, Err, OnErr, refl, sym, ap, ◌∙◌, subst, arith}
+use Rattle.std.proofs.Common.{◌≡◌, ◌+◌, ◌-◌, ◌*◌, ◌≤◌, ℕ, List, ◌++◌, length, take, drop, length-take, length-drop, Result, Ok, Err, OnErr, refl, ap, ◌∙◌, subst, arith}
 use borrow.Rule.Slice.PartMut.{put_mid}
 use Rattle.std.proofs.lemmas.List.{take-append-drop}
 use Rattle.nvm_model.specs.Blocks.{byte_of_blocks, look_blocks}
