@@ -40,7 +40,7 @@ impl Mappings {
         is_any_of(&self.maps, name)
     }
 
-    /// Whether a shared mapping of a file has a byte of that span.
+    /// Whether a shared mapping of a file has a byte of that span, which may end anywhere. An empty one counts where it lies inside.
     pub fn touches(&self, name: &Name, span: Span) -> bool
         ensures { result ≡ is_shown name.now span self.now.mappings }
     {
