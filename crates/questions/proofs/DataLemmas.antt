@@ -1,5 +1,5 @@
 -- Printed bytes are a word.
-use Rattle.std.proofs.Common.{◌≡◌, ℕ, ◌^◌, ◌<◌, ◌≤◌, true, not, List, length, get_or, arith, rules, tests}
+use Rattle.std.proofs.Common.{◌≡◌, ℕ, ◌<◌, ◌≤◌, true, not, List, length, get_or, arith, rules, tests}
 use Rattle.nvm_base.specs.Data.{data_text}
 use Rattle.nvm_base.proofs.PrintedLemmas.{is_data_byte, data_text-bytes}
 use Rattle.nvm_base.proofs.SplitLemmas.{list_all-weaker}
