@@ -19,6 +19,8 @@ use Rattle.machine_model.specs.Run.{Ends, Transcript, worked}
 use Rattle.machine_host.specs.Stands.{Comes, HostState, Stands}
 use Rattle.machine_model.specs.Telling.{Tells}
 use Rattle.machine_host.proofs.TellingLemmas.{never_on}
+use Rattle.machine_host.specs.Keeping.{is_refusal, reach}
+use Rattle.machine_host.proofs.KeepLemmas.{keeps_as}
 
 -- Of both the same comes, an answer or work; they may spend as much, and leave the same where they are interrupted.
 pub record IsAs (h : Machine) (a b : Action) : Type 0 where
@@ -126,10 +128,11 @@ module _ (h : Machine) (a b : Action) (alike : IsAs h a b) (answer : Answer) (ho
       (comes_by alike.why alike.good alike.to (subst (λ f. Comes h a f answer host old new) alike.comes was))
 
 -- so what answers the one answers the other
-pub answered_as : (a b : Action) (answer : Answer) (before after : HostState) (old new : Device) → ((h : Machine) → Stands before old h → IsAs h a b) → longest a ≤ longest b
+pub answered_as : (a b : Action) (answer : Answer) (before after : HostState) (old new : Device) → ((h : Machine) → Stands before old h → IsAs h a b) → longest a ≤ longest b → reach b ≡ reach a
     → Answered a answer before after old new → Answered b answer before after old new
-answered_as a b answer before after old new alike roomy was = record {
+answered_as a b answer before after old new alike roomy same was = record {
   step = λ h stands. comes_as h a b (alike h stands) answer after old new (was.step h stands);
+  keeps = keeps_as (is_refusal answer) a b before after old new same was.keeps;
   printable = was.printable;
   room = omega (arith, was.room, roomy);
   serves = was.serves;

@@ -15,6 +15,9 @@ use Rattle.machine_host.specs.Responding.{Answered}
 use Rattle.machine_host.specs.Stands.{HostServes, HostState, Comes}
 use Rattle.machine_host.proofs.ExistsLemmas.{same_state}
 use Rattle.machine_model.proofs.RefusalLemmas.{always_allowed}
+use Rattle.line_device.proofs.WriteBackLemmas.{write_back-refl}
+use Rattle.machine_host.specs.Keeping.{Keeps, is_refusal}
+use Rattle.machine_host.proofs.KeepLemmas.{left_all}
 
 -- refused or told, by what the table has
 by_value : (h : Machine) (o : Option ℕ) → unless_refused h (first_reason None h.bad_meta (record no_reasons { named = unknown o })) (Gives (told_value o) h) ≡ Gives (told_value o) h
@@ -39,12 +42,17 @@ few : (o : Option ℕ) → most_of (told_value o) ≤ 72
 few None = omega arith
 few (Some value) = omega arith
 
+keeps_value : (host : HostState) (d : Device) (name : List ℕ) (o : Option ℕ) → Keeps (is_refusal (told_value o)) (Attr name) host host d d
+keeps_value host d name None = left_all host d
+keeps_value host d name (Some value) = write_back-refl d.medium
+
 pub attr_answered : (host : HostState) (d : Device) (name : List ℕ) (answer : Answer) → HostServes host d → answer ≡ told_value (attribute name host.geometry) → Answered (Attr name) answer host host d d
 attr_answered host d name answer serves is = subst (λ a. Answered (Attr name) a host host d d) (sym is) (record {
   step = λ h stands.
       let o = attribute name host.geometry in
       let same : fate h (Attr name) ≡ Gives (told_value o) h = fate_attr h name ∙ ap (λ geo. Gives (told_value (attribute name geo)) h) (sym stands.geometry) in
       subst (λ f. Comes h (Attr name) f (told_value o) host d d) (sym same) (same_state host d h (Attr name) (told_value o) (quiet o) stands);
+  keeps = keeps_value host d name (attribute name host.geometry);
   printable = printable (attribute name host.geometry);
   room = few (attribute name host.geometry);
   serves = serves;

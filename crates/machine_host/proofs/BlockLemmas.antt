@@ -56,6 +56,8 @@ use Rattle.machine_host.proofs.FilesAsideLemmas.{files_not_blocks}
 use Rattle.machine_host.proofs.FilesLeftLemmas.{may_leave-same}
 use Rattle.machine_host.proofs.LayoutLemmas.{kept-beside, layout-beside, metadata-then, same_bad}
 use Rattle.machine_host.proofs.StepLemmas.{DeviceLeft, FilesAre, PagesAre, files_still, pages_still, stands_done}
+use Rattle.machine_host.specs.Keeping.{Changes, is_refusal, reach}
+use Rattle.machine_host.proofs.KeepLemmas.{keeps_called, keeps_inside}
 
 -- what a call on the blocks says, whichever it is
 pub record Called {T : Type 0} (host : HostState) (s : BlocksState) (r : Result T BlockFault) (P : List Block → Type 0) (calls persists : ℕ) (old new : Device) : Type 0 where
@@ -211,7 +213,7 @@ module _ (host : HostState) (s : BlocksState) (action : Action) (calls persists 
   left_called (Ok x) left c = left_by left c (λ good. c.images (good_was good))
   left_called (Err e) left c = λ worked. left_by left c (λ good. c.images (good_was good) worked)
 
-same_host : {T : Type 0} (host : HostState) (s : BlocksState) (r : Result T BlockFault) (old new : Device) → OnRefused r ((s ≡ host.blocks) × (new ≡ old)) → OnRefused r ((host_after host s host.mode ≡ host) × (new ≡ old))
+pub same_host : {T : Type 0} (host : HostState) (s : BlocksState) (r : Result T BlockFault) (old new : Device) → OnRefused r ((s ≡ host.blocks) × (new ≡ old)) → OnRefused r ((host_after host s host.mode ≡ host) × (new ≡ old))
 same_host host s (Ok x) old new untouched = tt
 same_host host s (Err e) old new untouched = λ told. let same = untouched told in (ap (λ b. record host { blocks = b }) same.0, same.1)
 
@@ -340,12 +342,14 @@ module _ (now host after : HostState) (s : BlocksState) (r : Result (Unit {0}) B
   pub change_answered : (answer : Answer) (places : ℕ → Option Refusal) (f : List Block → List Block) (left : BlocksLeft) (a b : ℕ) → meaning action ≡ changing_blocks places f left a b
       → ((h : Machine) → MayLeaveVolume h.geometry (Some action) h.volume h.volume)
       → Answers (first_there (places host.blocks.geo.blocks) (blocks.meta_refusal host.blocks.geo old.medium)) r → OnOk r (blocks_of s new.medium ≡ f (blocks_of host.blocks old.medium))
-      → answer ≡ answer_after block_says refusal_answer Done r → Answered action answer now after old new
-  change_answered answer places f left a b row kept refused ok answer_is = record {
+      → answer ≡ answer_after block_says refusal_answer Done r → Changes (reach action) old new → Answered action answer now after old new
+  change_answered answer places f left a b row kept refused ok answer_is changes = record {
     step = λ h stands. change_comes h Done answer (first_there (places host.blocks.geo.blocks) (blocks.meta_refusal host.blocks.geo old.medium)) f refl stands (kept h)
         (λ serves stands on. fate_changing h action places f left a b row (sym stands.mode ∙ on)
         ∙ ap (λ o. unless_refused h o (Works Done (record h { blocks = f h.blocks }))) (refused_places host old h serves stands on places))
         refused ok answer_is;
+    keeps = keeps_inside (is_refusal answer) action now host after (host_after host s (mode_after block_says r)) old new inside state
+        (keeps_called block_says refusal_answer r answer (record { good = Done; accepts = refl; is = answer_is }) action host (host_after host s) old new on_inside (same_host host s r old new call.untouched) changes);
     printable = subst IsPrintable (sym answer_is) (printable_after block_says refusal_answer blocks_part Done tt r);
     room = let short = subst (λ a. most_of a ≤ 72) (sym answer_is) (short_after r) in subst (λ m. most_of answer ≤ m.room) (sym row) short;
     serves = change_serves;

@@ -33,9 +33,11 @@ use Rattle.machine_host.specs.Faults.{answer_after, fault_answer, mode_after}
 use Rattle.machine_model.specs.OnBlocks.{refusal_answer}
 use Rattle.machine_host.specs.Responding.{Answered}
 use Rattle.reply_text.specs.Room.{most_of}
-use Rattle.machine_host.proofs.BlockLemmas.{Called, host_after, blocks_part, change_serves, change_comes}
+use Rattle.machine_host.proofs.BlockLemmas.{Called, host_after, blocks_part, change_serves, change_comes, same_host}
 use Rattle.machine_host.proofs.CallLemmas.{printable_told, short_told}
 use Rattle.block_device.specs.Refusals.{block_says}
+use Rattle.machine_host.specs.Keeping.{is_refusal}
+use Rattle.machine_host.proofs.KeepLemmas.{AnswersCall, keeps_called, keeps_inside}
 
 -- a fault that refuses leaves the object settled
 refused_done : (f : BlockFault) → told f ≢ None → is_done (block_outcome {T = Unit {0}} (Err f)) ≡ true
@@ -131,9 +133,11 @@ module _ (now host after : HostState) (s : BlocksState) (r : Result (Unit {0}) B
       (subst (λ o. Answers o r) why (subst (λ n. Answers (read_refusal host.blocks old.medium block n) r) size refused)) (on_ok r blocks_stay) (answer_is stays)
 
   pub read_answered : (answer : Answer) → 1 ≤ count → count ≤ 128 → block + count ≤ now.geometry.blocks → Answers (read_refusal host.blocks old.medium block len) r
-      → ((h : Machine) → blocks_of host.blocks old.medium ≡ h.blocks → answer ≡ answer_after block_says refusal_answer (Bytes (look_blocks h.blocks block count)) r) → most_of answer ≤ longest (BRead block count) → IsPrintable answer
+      → ((h : Machine) → blocks_of host.blocks old.medium ≡ h.blocks → answer ≡ answer_after block_says refusal_answer (Bytes (look_blocks h.blocks block count)) r) → AnswersCall block_says refusal_answer r answer → most_of answer ≤ longest (BRead block count) → IsPrintable answer
       → Answered (BRead block count) answer now after old new
-  read_answered answer some most within refused answer_is room printable = record {
+  read_answered answer some most within refused answer_is told room printable = record {
+    keeps = keeps_inside (is_refusal answer) (BRead block count) now host after (host_after host s (mode_after block_says r)) old new inside state
+        (keeps_called block_says refusal_answer r answer told (BRead block count) host (host_after host s) old new (ap (λ k. k.mode) inside ∙ on) (same_host host s r old new call.untouched) lines);
     printable = printable;
     step = λ h stands. read_comes h answer stands some most within refused (answer_is h);
     room = room;

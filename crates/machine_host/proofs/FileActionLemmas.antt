@@ -38,6 +38,8 @@ use Rattle.machine_host.proofs.FilePageFateLemmas.{pages_are}
 use Rattle.machine_host.proofs.FilePageLemmas.{file_seen, meta_seen, named_seen, right_now, room_now, units_seen}
 use Rattle.machine_host.proofs.FilesCallLemmas.{journal_sizes}
 use Rattle.machine_host.proofs.WeakPageLemmas.{discard-weak, rewritten-weak}
+use Rattle.machine_host.specs.Keeping.{Changes, Reach, reach}
+use Rattle.machine_host.specs.Keeping.Reach.{AnyLine}
 
 -- An action that leaves all but one file, and that one old or new.
 pub record TurnsFile (action : Action) (name : List ℕ) (f : List Page → List Page) : Type 0 where
@@ -79,29 +81,29 @@ module _ {D : Type 0} (state : D → Device) (now host after : HostState) (p : P
   abbrev ActionSays : (List Page → Option ActionRefusal) → (List Page → List Page) → ℕ → ℕ → Type 0
   ActionSays why f calls persists = FileCalled action_says state host p r inode why f (λ old left. (left ≡ old) ⊎ (left ≡ f old)) calls persists before last
 
-  turned_answered : (action : Action) (f : List Page → List Page) (calls persists : ℕ) (why : List Page → Option ActionRefusal) → TurnsFile action name f
+  turned_answered : (action : Action) (f : List Page → List Page) (calls persists : ℕ) (why : List Page → Option ActionRefusal) → TurnsFile action name f → reach action ≡ AnyLine
       → ((pages : List Page) → count_in_pages is_weak_cell (f pages) ≤ count_in_pages is_weak_cell pages)
       → ((h : Machine) → Stands now (state before) h → (calls ≤ (spending h action).calls) × (persists ≤ (spending h action).persists))
       → ((h : Machine) (stands : Stands now (state before) h)
       → fate h action ≡ unless_refused h (option_map (action_answer name) (why (seen_pages h stands))) (Works Done (record h { files = change_file file_name name (on_pages f) h.files })))
       → ActionSays why f calls persists → (answer : Answer) → answer ≡ answer_after action_says (action_answer name) Done r → Answered action answer now after (state before) (state last)
-  turned_answered action f calls persists why turns thin few fate_is said answer answer_is =
+  turned_answered action f calls persists why turns wide thin few fate_is said answer answer_is =
       file_answered action_says (action_answer name) (actions_part name) now host after p r name inode f action calls persists (state before) (state last) inside state_is on serves here few turns.others
       (file_called action_says state host p r name inode why f (λ old left. (left ≡ old) ⊎ (left ≡ f old)) calls persists before last (right_now now host (state before) inside on serves) here said
       (MayLeaveFiles host.files.mappings.mappings (Some action)) (λ files left up one. turns.may host.files.mappings.mappings files left (left-either name f files left up one))
       thin (room_now now host (state before) inside on serves))
-      answer why turns.long fate_is said.refused said.ok answer_is
+      answer why turns.long fate_is said.refused said.ok answer_is (subst (λ (k : Reach). Changes k (state before) (state last)) (sym wide) tt)
 
   -- of ranges that are written together
   abbrev write_spends : List Span → (ℕ → ℕ) → ℕ
   write_spends ranges of_pages = of_pages (pages_touched ranges (pages_at host.files.pages.journal.tables.files inode))
 
-  pub together_answered : (action : Action) (ranges : List Span) (bytes : List ℕ) → meaning action ≡ fmulti name ranges bytes
+  pub together_answered : (action : Action) (ranges : List Span) (bytes : List ℕ) → meaning action ≡ fmulti name ranges bytes → reach action ≡ AnyLine
       → ActionSays (λ pages. write_refusal host.files.pages.journal (state before).medium pages ranges) (rewritten ranges bytes) (write_spends ranges write_calls) (write_spends ranges write_persists)
       → (answer : Answer) → answer ≡ answer_after action_says (action_answer name) Done r → Answered action answer now after (state before) (state last)
-  together_answered action ranges bytes row =
+  together_answered action ranges bytes row wide =
       turned_answered action (rewritten ranges bytes) (write_spends ranges write_calls) (write_spends ranges write_persists) (λ pages. write_refusal host.files.pages.journal (state before).medium pages ranges)
-      (turns_together action name ranges bytes row) (rewritten-weak ranges bytes)
+      (turns_together action name ranges bytes row) wide (rewritten-weak ranges bytes)
       (λ h stands. subst (λ (t : Meaning). (write_spends ranges write_calls ≤ (t.spends h).calls) × (write_spends ranges write_persists ≤ (t.spends h).persists)) (sym row)
       (subst (λ n. (write_spends ranges write_calls ≤ write_calls (pages_touched ranges n)) × (write_spends ranges write_persists ≤ write_persists (pages_touched ranges n))) (size_seen h stands)
       (omega arith, omega arith)))
@@ -117,7 +119,7 @@ module _ {D : Type 0} (state : D → Device) (now host after : HostState) (p : P
       → (answer : Answer) → answer ≡ answer_after action_says (action_answer name) Done r → Answered (FDiscard name span.start span.len) answer now after (state before) (state last)
   discard_answered span =
       turned_answered (FDiscard name span.start span.len) (discard span.start span.len) (commit_calls (5 + span.len)) (commit_persists (5 + span.len))
-      (λ pages. discard_refusal host.files.pages.journal (state before).medium pages span) (turns_discard name span) (discard-weak span.start span.len) (λ h stands. (omega arith, omega arith))
+      (λ pages. discard_refusal host.files.pages.journal (state before).medium pages span) (turns_discard name span) refl (discard-weak span.start span.len) (λ h stands. (omega arith, omega arith))
       (λ h stands.
       let seen = file_seen now host (state before) inside on serves name h stands inode here in
       fate_discard h name seen.file (sym stands.mode ∙ on) (named_seen now host (state before) inside on serves name h stands (Some inode) (sym here)) seen.found

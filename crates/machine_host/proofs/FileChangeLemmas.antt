@@ -34,6 +34,7 @@ use Rattle.machine_host.proofs.FilePageCallLemmas.{AreReady, LeavesOthers, Pages
 use Rattle.machine_host.proofs.FilePageLemmas.{file_seen}
 use Rattle.machine_host.proofs.RoomLemmas.{room_then}
 use Rattle.machine_host.proofs.WeakFileLemmas.{change-weak}
+use Rattle.machine_host.specs.Keeping.{Changes, reach}
 
 worked-then : {T E R P Q : Type 0} (says : E → Told R) (q : Result T E) → (P → Q) → OnWorked says q P → OnWorked says q Q
 worked-then says (Ok x) then_ p = then_ p
@@ -126,13 +127,13 @@ module _ {E R : Type 0} (says : E → Told R) (answer_to : R → Answer) (part :
       → ((h : Machine) (stands : Stands now old h)
       → fate h action ≡ unless_refused h (option_map answer_to (why (file_seen now host old inside on serves name h stands inode here).file.pages)) (Works Done (record h { files = change_file file_name name (on_pages f) h.files })))
       → ((files : List File) (file : File) → IsFileAt host.files.pages.journal old.medium inode files file → Answers says (why file.pages) r)
-      → MakesFile r host p old.medium new.medium inode f → answer ≡ answer_after says answer_to Done r → Answered action answer now after old new
-  file_answered few leaves call answer why long fate_is refused ok answer_is =
+      → MakesFile r host p old.medium new.medium inode f → answer ≡ answer_after says answer_to Done r → Changes (reach action) old new → Answered action answer now after old new
+  file_answered few leaves call answer why long fate_is refused ok answer_is changes =
       work_answered says answer_to part now host after p host.files.events r calls persists old new inside state on serves action few leaves call refl answer
       (λ h stands. why (file_seen now host old inside on serves name h stands inode here).file.pages)
       (λ h. change_file file_name name (on_pages f) h.files) long fate_is
       (λ h stands. let seen = file_seen now host old inside on serves name h stands inode here in refused h.files seen.file seen.at)
-      (λ h stands. made r ok h (file_seen now host old inside on serves name h stands inode here)) answer_is
+      (λ h stands. made r ok h (file_seen now host old inside on serves name h stands inode here)) answer_is changes
     where
       made : (q : Result (Unit {0}) E) → MakesFile q host p old.medium new.medium inode f → (h : Machine) → FoundFile host.files.pages.journal old.medium inode name h.files
           → OnOk q (FilesStand host.files.pages.journal.geo new.medium p.journal.tables (change_file file_name name (on_pages f) h.files))

@@ -41,6 +41,8 @@ use Rattle.machine_host.proofs.ExistsLemmas.{same_state}
 use Rattle.machine_host.proofs.FileErrorLemmas.{fate_of_file, file_is, pages_seen}
 use Rattle.machine_host.proofs.FilePageLemmas.{right_now}
 use Rattle.machine_model.proofs.RefusalLemmas.{span_allowed}
+use Rattle.line_device.proofs.WriteBackLemmas.{write_back-refl}
+use Rattle.machine_host.proofs.KeepLemmas.{left_all}
 
 -- how a refusal of a span is answered
 abbrev pub span_answer : SpanRefusal → Why
@@ -113,6 +115,7 @@ module _ (now host : HostState) (d : Device) (inside : host ≡ now) (on : now.m
         (subst (λ f. Comes h action f (BadLines (offsets_of (bad_touched (span ∷ []) found.file.pages))) now d d)
         (sym (fate_check h stands found.file.pages (pages_seen now host d inside on serves name inode here h stands) None (not_refused x (span_refusal (length found.file.pages) span) (refused h.files found.file found.at))))
         (same_state now d h action (BadLines (offsets_of (bad_touched (span ∷ []) found.file.pages))) refl stands));
+    keeps = write_back-refl d.medium;
     printable = tt;
     room = few lines refused is;
     serves = serves;
@@ -151,6 +154,7 @@ module _ (now host : HostState) (d : Device) (inside : host ≡ now) (on : now.m
         subst (λ x. Comes h action x (Refused (span_answer w)) now d d)
         (sym (fate_check h stands found.file.pages (pages_seen now host d inside on serves name inode here h stands) (Some w) (answers_refused T (span_refusal (length found.file.pages) span) f w says (refused h.files found.file found.at))))
         (same_state now d h action (Refused (span_answer w)) refl stands);
+    keeps = left_all now d;
     printable = tt;
     room = omega arith;
     serves = serves;

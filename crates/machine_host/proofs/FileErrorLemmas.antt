@@ -19,7 +19,7 @@ use Rattle.file_journal.specs.Area.{IsOfFiles}
 use Rattle.file_journal.specs.Standing.{EachReadsFiles, FilesStand}
 use Rattle.file_journal.specs.Tables.{AreTables}
 use Rattle.file_journal.proofs.FileLineLemmas.{page_line_behind}
-use Rattle.file_pages.specs.Object.{IsFileAt, KeepsMarks, PagesServe}
+use Rattle.file_pages.specs.Object.{IsFileAt, KeepsMarks, PagesServe, file_place}
 use Rattle.file_pages.proofs.FoundLemmas.{FoundFile, file-found}
 use Rattle.scrub.specs.Lines.{IsFileLine}
 use Rattle.scrub.specs.Others.{WritesBackBut}
@@ -37,7 +37,7 @@ use Rattle.machine_model.specs.declared.needs.Needs.TheVariants.{Usable}
 use Rattle.machine_model.specs.Machine.{Machine, Fate}
 use Rattle.machine_model.specs.Machine.Fate.{Gives, Works}
 use Rattle.machine_model.specs.Commands.{MayLeaveFiles, fate, longest, meaning, unless_refused}
-use Rattle.machine_host.specs.Faults.{answer_after, mode_after}
+use Rattle.machine_host.specs.Faults.{answer_after, mode_after, IsRoomier}
 use Rattle.machine_model.specs.Meaning.{Reasons, first_reason, no_reasons}
 use Rattle.machine_model.specs.OnFileErrors.{marked_in}
 use Rattle.machine_model.specs.OnFiles.{if_missing}
@@ -56,6 +56,11 @@ use Rattle.nvm_base.specs.Stock.{Stock}
 use Rattle.machine_host.proofs.RoomLemmas.{room_then, serves_telling, stands_telling, telling}
 use Rattle.machine_host.proofs.WeakFileLemmas.{change-weak}
 use Rattle.machine_host.proofs.WeakLineLemmas.{clear-weak}
+use Rattle.machine_host.specs.Keeping.{Changes, Reach, is_refusal, reach}
+use Rattle.machine_host.specs.Keeping.Reach.{OneLine}
+use Rattle.machine_host.proofs.KeepLemmas.{but_named, keeps_answer}
+use Rattle.line_device.specs.Medium.{WritesBack}
+use Rattle.line_device.proofs.WriteBackLemmas.{write_back-refl}
 
 -- A row that is refused for a file that is not there and for its places, of a file that is.
 fate_placed : (h : Machine) (action : Action) (name : List ℕ) (places : Option Answer) → (meaning action).needs ≡ Usable → h.mode ≡ On → has_file file_name name h.files ≡ true
@@ -102,9 +107,9 @@ module _ (host : HostState) (old new : Device) (serves : HostServes host old) (o
       → OnOk r ((files : List File) (file : File) → IsFileAt host.files.pages.journal old.medium inode files file
       → FilesStand host.files.pages.journal.geo new.medium host.files.pages.journal.tables (change_file file_name file.name (on_pages (change_line mark (offset / 64))) files))
       → WritesBackBut lines old.medium new.medium → PagesServe host.files.pages new.medium
-      → OnRefused says r (e.items ≡ host.files.events.items) → OnOk r ((h : Machine) → Stands host old h → e.items ≡ events h) → HasRoom (record host.files { events = e }) new.medium
-      → answer ≡ answer_after says line_answer Done r → Answered action answer host (telling e host) old new
-  file_line_answered {E} says mark events action r answer long needs reasons comes refused told untouched ok x served unheard heard room answer_is = record {
+      → OnRefused says r (e.items ≡ host.files.events.items) → OnRefused says r (host.files.events.spare ≤ e.spare) → OnOk r ((h : Machine) → Stands host old h → e.items ≡ events h) → HasRoom (record host.files { events = e }) new.medium
+      → answer ≡ answer_after says line_answer Done r → reach action ≡ OneLine → Answered action answer host (telling e host) old new
+  file_line_answered {E} says mark events action r answer long needs reasons comes refused told untouched ok x served unheard roomy heard room answer_is one = record {
     step = λ h stands.
         let found = file_is host host old refl on serves name inode here h stands in
         let to : Machine = record h { files = marked_in mark name offset h.files; events = events h } in
@@ -117,11 +122,20 @@ module _ (host : HostState) (old new : Device) (serves : HostServes host old) (o
         (comes_of_marking says line_answer quiet_line (telling e host) old new h to action r (file_refusal found.file.pages offset) panel
         (refused h.files found.file found.at) told untouched (on_refused-then says r (λ same. stands_telling host old h e h.events (same ∙ stands.events on) stands) unheard)
         (stands_ok r ok heard h stands found)));
+    keeps = keeps_answer says line_answer r answer (record { good = Done; accepts = refl; is = answer_is }) action host (telling e host) old new (left_by r untouched unheard roomy)
+        (subst (λ (k : Reach). Changes k old new) (sym one)
+        (but_named (file_place host.files.pages.journal inode (offset / 64)) lines old.medium new.medium (λ n of. of.at) x));
     printable = subst IsPrintable (sym answer_is) (line_printable says r);
     room = subst (λ n. most_of answer ≤ n) (sym long) (subst (λ a. most_of a ≤ 72) (sym answer_is) (short_after says r));
     serves = serves_by r told untouched;
   }
     where
+      left_by : (q : Result (Unit {0}) E) → OnRefused says q (new ≡ old) → OnRefused says q (e.items ≡ host.files.events.items) → OnRefused says q (host.files.events.spare ≤ e.spare)
+          → OnRefused says q (IsRoomier host (telling e host) × WritesBack old.medium new.medium)
+      left_by (Ok u) untouched unheard roomy = tt
+      left_by (Err f) untouched unheard roomy = λ refused.
+          (record { events = e; same = refl; items = unheard refused; spare = roomy refused }, subst (λ d. WritesBack old.medium d.medium) (sym (untouched refused)) (write_back-refl old.medium))
+
       stands_ok : (q : Result (Unit {0}) E)
           → OnOk q ((files : List File) (file : File) → IsFileAt host.files.pages.journal old.medium inode files file
           → FilesStand host.files.pages.journal.geo new.medium host.files.pages.journal.tables (change_file file_name file.name (on_pages (change_line mark (offset / 64))) files))
@@ -223,7 +237,7 @@ module _ (now host after : HostState) (r : Result (Unit {0}) ScrubFault) (name :
       ∙ ap (λ pages. unless_refused h (option_map line_answer (file_clear_refusal pages offset)) (Works Done (record h { files = marked_in clear_cell name offset h.files }))) (pages_seen now host old inside on serves name inode here h stands))
       (λ h stands. let found = file_is now host old inside on serves name inode here h stands in refused h.files found.file found.at)
       (λ h stands. cleared r ok h (file_is now host old inside on serves name inode here h stands))
-      answer_is
+      answer_is tt
     where
       cleared : (q : Result (Unit {0}) ScrubFault)
           → OnOk q ((files : List File) (file : File) → IsFileAt host.files.pages.journal old.medium inode files file

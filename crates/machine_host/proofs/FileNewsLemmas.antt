@@ -58,13 +58,18 @@ module _ (host : HostState) (old new : Device) (on : host.mode ≡ On) (serves :
   -- A line is taken, and told where that is news.
   module _ (after : HeldFiles) (r : Result (Unit {0}) PlaceFault) (was is_news : Bool) (told : after ≡ record f { events = after.events })
       (adds : after.events.items ≡ f.events.items ++ (if is_news then line_event f.mappings.mappings name (offset / 64) ∷ [] else [])) (spare : f.events.spare ≤ after.events.spare + 1)
-      (was_is : (files : List File) (file : File) → IsFileAt f.pages.journal old.medium inode files file → was ≡ is_bad_cell (cell_of file.pages (offset / 64))) (news_is : is_news ≡ (is_ok r && not was)) where
+      (was_is : (files : List File) (file : File) → IsFileAt f.pages.journal old.medium inode files file → was ≡ is_bad_cell (cell_of file.pages (offset / 64))) (news_is : is_news ≡ (is_ok r && not was))
+      (roomy : host.files.events.spare ≤ f.events.spare) (silent : is_news ≡ false → after ≡ f) where
     after_is : after ≡ record host.files { events = after.events }
     after_is = told ∙ ap (λ (x : HeldFiles). record x { events = after.events }) files_are
 
     unheard : (q : Result (Unit {0}) PlaceFault) → is_news ≡ (is_ok q && not was) → OnRefused place_says q (after.events.items ≡ host.files.events.items)
     unheard (Ok u) is = tt
     unheard (Err x) is = λ _. none_new f.events.items after.events.items (line_event f.mappings.mappings name (offset / 64) ∷ []) is_news adds is ∙ items
+
+    unspent : (q : Result (Unit {0}) PlaceFault) → is_news ≡ (is_ok q && not was) → OnRefused place_says q (host.files.events.spare ≤ after.events.spare)
+    unspent (Ok u) is = tt
+    unspent (Err x) is = λ _. subst (λ (k : HeldFiles). host.files.events.spare ≤ k.events.spare) (sym (silent is)) roomy
 
     heard : (q : Result (Unit {0}) PlaceFault) → is_news ≡ (is_ok q && not was)
         → OnOk q ((h : Machine) → Stands host old h → after.events.items ≡ h.events ++ taken_events h.mappings name (offset / 64) (pages_named name h.files))
@@ -91,22 +96,22 @@ module _ (host : HostState) (old new : Device) (on : host.mode ≡ On) (serves :
         subst (λ (x : HeldFiles). Answered (PoisonFile name offset) answer host (record host { files = x }) old new) (sym after_is)
         (file_line_answered host old new serves on panel name inode offset here after.events place_says lose_cell (λ h. h.events ++ taken_events h.mappings name (offset / 64) (pages_named name h.files)) (PoisonFile name offset) r answer refl refl
         (λ h. refl) (λ h. refl) (subst (λ (p : PagesState). (files : List File) (file : File) → IsFileAt p.journal old.medium inode files file → Answers place_says (file_refusal file.pages offset) r) pages refused) (if_err_all r place_refuses) untouched
-        ok_here (subst (λ (p : PagesState). WritesBackBut (IsFileLine p.journal inode (offset / 64)) old.medium new.medium) pages outside) (subst (λ (p : PagesState). PagesServe p new.medium) pages served) (unheard r news_is) (heard r news_is)
+        ok_here (subst (λ (p : PagesState). WritesBackBut (IsFileLine p.journal inode (offset / 64)) old.medium new.medium) pages outside) (subst (λ (p : PagesState). PagesServe p new.medium) pages served) (unheard r news_is) (unspent r news_is) (heard r news_is)
         (room_taken host.files (record host.files { events = after.events }) old.medium new.medium (right_now host host old refl on serves) name inode offset here room refl r (omega (arith, left, spare))
         (kept_at place_says old new r (if_err_all r place_refuses) untouched) ok_here)
-        answer_is)
+        answer_is refl)
 
   abbrev with_room : HostState
   with_room = record host { files = f }
 
   -- A line is made weak.
-  pub weaken_told : (r : Result (Unit {0}) WeakenFault) (answer : Answer) → IfErr r (λ x. IsRefusal (weaken_says x)) → new.panel ≡ old.panel
+  pub weaken_told : host.files.events.spare ≤ f.events.spare → (r : Result (Unit {0}) WeakenFault) (answer : Answer) → IfErr r (λ x. IsRefusal (weaken_says x)) → new.panel ≡ old.panel
       → ((files : List File) (file : File) → IsFileAt f.pages.journal old.medium inode files file → Answers weaken_says (file_refusal file.pages offset) r) → OnRefused weaken_says r (new ≡ old)
       → OnOk r ((files : List File) (file : File) → IsFileAt f.pages.journal old.medium inode files file
       → FilesStand f.pages.journal.geo new.medium f.pages.journal.tables (change_file file_name file.name (on_pages (change_line weaken_cell (offset / 64))) files))
       → WritesBackBut (IsFileLine f.pages.journal inode (offset / 64)) old.medium new.medium → PagesServe f.pages new.medium → answer ≡ answer_after weaken_says line_answer Done r
       → Answered (WeakenFile name offset) answer host with_room old new
-  weaken_told r answer refuses panel refused untouched ok outside served answer_is =
+  weaken_told roomy r answer refuses panel refused untouched ok outside served answer_is =
       let pages : f.pages ≡ host.files.pages = ap (λ (x : HeldFiles). x.pages) files_are in
       let ok_here = subst (λ (p : PagesState). OnOk r ((files : List File) (file : File) → IsFileAt p.journal old.medium inode files file
       → FilesStand p.journal.geo new.medium p.journal.tables (change_file file_name file.name (on_pages (change_line weaken_cell (offset / 64))) files))) pages ok in
@@ -114,10 +119,10 @@ module _ (host : HostState) (old new : Device) (on : host.mode ≡ On) (serves :
       (file_line_answered host old new serves on panel name inode offset here f.events weaken_says weaken_cell (λ h. h.events) (WeakenFile name offset) r answer refl refl
       (λ h. refl) (λ h. refl) (subst (λ (p : PagesState). (files : List File) (file : File) → IsFileAt p.journal old.medium inode files file → Answers weaken_says (file_refusal file.pages offset) r) pages refused) refuses untouched
       ok_here (subst (λ (p : PagesState). WritesBackBut (IsFileLine p.journal inode (offset / 64)) old.medium new.medium) pages outside) (subst (λ (p : PagesState). PagesServe p new.medium) pages served)
-      (on_refused-then weaken_says r (λ _. items) untouched) (all_ok r (λ h stands. items ∙ stands.events on))
+      (on_refused-then weaken_says r (λ _. items) untouched) (on_refused-then weaken_says r (λ _. roomy) untouched) (all_ok r (λ h stands. items ∙ stands.events on))
       (room_weakened host.files (record host.files { events = f.events }) old.medium new.medium (right_now host host old refl on serves) name inode offset here room refl r (enough room.files room.stand)
       (kept_at weaken_says old new r refuses untouched) ok_here)
-      answer_is)
+      answer_is refl)
     where
       all_ok : {P : Type 0} (q : Result (Unit {0}) WeakenFault) → P → OnOk q P
       all_ok (Ok u) p = p

@@ -48,6 +48,8 @@ use Rattle.machine_host.proofs.StepLemmas.{BlocksAre, DeviceLeft, PagesAre, bloc
 use Rattle.machine_host.proofs.VolumeCallLemmas.{short_after}
 use Rattle.nvm_base.specs.Stock.{Stock}
 use Rattle.machine_host.proofs.RoomLemmas.{stands_telling}
+use Rattle.machine_host.specs.Keeping.{Changes, is_refusal, reach}
+use Rattle.machine_host.proofs.KeepLemmas.{keeps_called, keeps_inside}
 
 -- files and their journal, ready for the next call
 pub record AreReady (s : JournalState) (p : PagesState) (m : Medium) : Type 0 where
@@ -166,7 +168,7 @@ module _ {E R : Type 0} (says : E → Told R) (host : HostState) (p : PagesState
   left_worked (Ok x) leaves c = left_by leaves c.outside c.marks (c.images h.files (stands.files on))
   left_worked (Err f) leaves c = λ worked. left_by leaves c.outside c.marks (c.images worked h.files (stands.files on))
 
-same_host : {T E R : Type 0} (says : E → Told R) (host : HostState) (p : PagesState) (e : Stock Event) (r : Result T E) (old new : Device) → OnRefused says r (((p ≡ host.files.pages) × (e ≡ host.files.events)) × (new ≡ old))
+pub same_host : {T E R : Type 0} (says : E → Told R) (host : HostState) (p : PagesState) (e : Stock Event) (r : Result T E) (old new : Device) → OnRefused says r (((p ≡ host.files.pages) × (e ≡ host.files.events)) × (new ≡ old))
     → OnRefused says r ((pages_after host p e host.mode ≡ host) × (new ≡ old))
 same_host says host p e r old new untouched = on_refused-then says r (λ same. (ap₂ (λ q f. record host { files = record host.files { pages = q; events = f } }) same.0.0 same.0.1, same.1)) untouched
 
@@ -219,9 +221,11 @@ module _ {E R : Type 0} (says : E → Told R) (answer_to : R → Answer) (part :
   pub work_answered : e ≡ host.files.events → (answer : Answer) (why : (h : Machine) → Stands now old h → Option R) (to : Machine → List File) → longest action ≡ 72
       → ((h : Machine) (stands : Stands now old h) → fate h action ≡ unless_refused h (option_map answer_to (why h stands)) (Works Done (record h { files = to h })))
       → ((h : Machine) (stands : Stands now old h) → Answers says (why h stands) r) → ((h : Machine) → Stands now old h → OnOk r (FilesStand host.files.pages.journal.geo new.medium p.journal.tables (to h)))
-      → answer ≡ answer_after says answer_to Done r → Answered action answer now after old new
-  work_answered same answer why to long fate_is refused ok answer_is = record {
+      → answer ≡ answer_after says answer_to Done r → Changes (reach action) old new → Answered action answer now after old new
+  work_answered same answer why to long fate_is refused ok answer_is changes = record {
     step = λ h stands. work_comes h Done answer (why h stands) (to h) h.events refl stands (fate_is h stands) (refused h stands) (ok h stands) (told_still same h stands) answer_is;
+    keeps = keeps_inside (is_refusal answer) action now host after (pages_after host p e (mode_after says r)) old new inside state
+        (keeps_called says answer_to r answer (record { good = Done; accepts = refl; is = answer_is }) action host (pages_after host p e) old new on_inside (same_host says host p e r old new call.untouched) changes);
     printable = subst IsPrintable (sym answer_is) (printable_after says answer_to part Done tt r);
     room = let short = subst (λ a. most_of a ≤ 72) (sym answer_is) (short_after says answer_to part Done (omega arith) r) in subst (λ n. most_of answer ≤ n) (sym long) short;
     serves = work_serves;

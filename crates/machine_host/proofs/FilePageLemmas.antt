@@ -48,13 +48,15 @@ use Rattle.machine_host.specs.Responding.{Answered}
 use Rattle.machine_host.specs.Stands.{HostState, HostServes, Stands, Comes, HasRoom}
 use Rattle.machine_host.proofs.CallLemmas.{IsPart, on_refused-then}
 use Rattle.machine_host.proofs.ExistsLemmas.{same_state}
-use Rattle.machine_host.proofs.FilePageCallLemmas.{AreReady, LeavesOthers, PagesCalled, pages_after, work_comes, work_serves, told_still}
+use Rattle.machine_host.proofs.FilePageCallLemmas.{AreReady, LeavesOthers, PagesCalled, pages_after, work_comes, work_serves, told_still, same_host}
 use Rattle.machine_host.proofs.FilePageFateLemmas.{fate_misread, fate_read_within, fate_unnamed}
 use Rattle.machine_host.proofs.FilesAsideLemmas.{files_stand_elsewhere}
 use Rattle.machine_host.proofs.FilesCallLemmas.{files_seen, journal_sizes, sees_files}
 use Rattle.machine_model.proofs.RefusalLemmas.{meta_refused}
 use Rattle.machine_model.proofs.UsedPageLemmas.{used_seen}
 use Rattle.machine_host.proofs.RoomLemmas.{room_still}
+use Rattle.machine_host.specs.Keeping.{is_refusal}
+use Rattle.machine_host.proofs.KeepLemmas.{AnswersCall, keeps_called, keeps_inside, left_all}
 
 -- answers of pages
 never_starves : (f : PageFault) → page_says f ≡ Starves → ⊥
@@ -137,6 +139,7 @@ missing_answered now host d name action inside on serves none needs named room =
       let missing = named h ∙ ap (λ b. if b then None else Some (Refused because.Missing)) (named_seen now host d inside on serves name h stands None none) in
       subst (λ f. Comes h action f (Refused because.Missing) now d d) (sym (fate_unnamed h action (Refused because.Missing) needs (sym stands.mode ∙ on) missing))
       (same_state now d h action (Refused because.Missing) refl stands);
+  keeps = left_all now d;
   printable = tt;
   room = room;
   serves = serves;
@@ -153,6 +156,7 @@ misread_answered now host d name inode offset len why inside on serves here is =
       let refused = ap (λ n. most_refusal 65536 (4096 * n) offset len) seen.size ∙ sym is in
       subst (λ f. Comes h (FRead name offset len) f (Refused why) now d d) (sym (fate_misread h name seen.file (sym stands.mode ∙ on) has seen.found offset len why refused))
       (same_state now d h (FRead name offset len) (Refused why) refl stands);
+  keeps = left_all now d;
   printable = tt;
   room = omega arith;
   serves = serves;
@@ -216,8 +220,8 @@ module _ (now host after : HostState) (p : PagesState) (r : Result (Unit {0}) Pa
   pub read_answered : (answer : Answer) → 1 ≤ len → len ≤ 65536 → offset + len ≤ 4096 * pages_at host.files.pages.journal.tables.files inode
       → ((files : List File) (file : File) → IsFileAt host.files.pages.journal old.medium inode files file → Answers page_says (read_refusal file.pages offset len) r)
       → ((files : List File) (file : File) → IsFileAt host.files.pages.journal old.medium inode files file → answer ≡ answer_after page_says (page_answer name) (Bytes (look file.pages offset len)) r)
-      → IsPrintable answer → most_of answer ≤ longest (FRead name offset len) → Answered (FRead name offset len) answer now after old new
-  read_answered answer some most within refused answer_is printable room = record {
+      → AnswersCall page_says (page_answer name) r answer → IsPrintable answer → most_of answer ≤ longest (FRead name offset len) → Answered (FRead name offset len) answer now after old new
+  read_answered answer some most within refused answer_is told printable room = record {
     step = λ h stands.
         let seen = file_seen now host old inside on serves name h stands inode here in
         let has = named_seen now host old inside on serves name h stands (Some inode) (sym here) in
@@ -227,6 +231,9 @@ module _ (now host after : HostState) (p : PagesState) (r : Result (Unit {0}) Pa
         (fate_read_within h name seen.file (sym stands.mode ∙ on) has seen.found offset len some there most)
         (refused h.files seen.file seen.at) (on_ok r (stand_after h.files (files_seen now host old h inside on serves stands)))
         (told_still page_says (page_answer name) (pages_part name) now host after p host.files.events r calls 0 old new inside state on serves (FRead name offset len) (λ h stands. (few, omega arith)) leaves call refl h stands) (answer_is h.files seen.file seen.at);
+    keeps = keeps_inside (is_refusal answer) (FRead name offset len) now host after (pages_after host p host.files.events (mode_after page_says r)) old new inside state
+        (keeps_called page_says (page_answer name) r answer told (FRead name offset len) host (pages_after host p host.files.events) old new (ap (λ k. k.mode) inside ∙ on)
+        (same_host page_says host p host.files.events r old new call.untouched) lines);
     printable = printable;
     room = room;
     serves =

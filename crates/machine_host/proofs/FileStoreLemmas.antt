@@ -75,4 +75,4 @@ module _ {D : Type 0} (state : D → Device) (now host after : HostState) (p : P
       fate_fwrite h name seen.file (sym stands.mode ∙ on) (named_seen now host (state before) inside on serves name h stands (Some inode) (sym here)) seen.found
       host.files.pages.journal (state before).medium (journal_sizes now host (state before) h inside on serves stands) (units_seen now host (state before) inside on serves name h stands) (metadata_seen h stands)
       offset bytes)
-      said.refused said.ok answer_is
+      said.refused said.ok answer_is tt

@@ -132,6 +132,6 @@ fsync_told state now host after p f r name inode before last answer inside on se
     (room_left host p name inode all_bytes (state before).medium (state last).medium tables here room object.0 f r (λ files file at. none_synced file.pages r (refused files file at)) ok told))
     object.0 answer sync_refusal (λ pages. Done) (λ pages. refl)
     (λ h stands found named. fate_fsync h name found.file.pages (sym stands.mode ∙ on) (named_seen now host (state before) inside on serves name h stands (Some inode) (sym here)) named)
-    refused ok (heard_of host p name inode all_bytes (state before).medium (state last).medium tables here room object.0 f r ok told) (λ files file at. answer_is)
+    refused ok (heard_of host p name inode all_bytes (state before).medium (state last).medium tables here room object.0 f r ok told) (λ files file at. answer_is) (record { good = Done; accepts = refl; is = answer_is }) tt
     (subst IsPrintable (sym answer_is) (printable_after action_says (action_answer name) (actions_part name) Done tt r))
     (subst (λ a. most_of a ≤ 72) (sym answer_is) (short_after action_says (action_answer name) (actions_part name) Done (omega arith) r))

@@ -66,6 +66,8 @@ use Rattle.machine_host.proofs.StepLemmas.{DeviceLeft, blocks_still, pages_still
 use Rattle.machine_host.proofs.MappedLemmas.{Spares, still_on}
 use Rattle.machine_host.proofs.VolumeCallLemmas.{short_after}
 use Rattle.machine_host.proofs.RoomLemmas.{Thins, room_then}
+use Rattle.machine_host.specs.Keeping.{Changes, is_refusal, reach}
+use Rattle.machine_host.proofs.KeepLemmas.{keeps_called, keeps_inside}
 
 -- What a call that changes files says, whichever it is: it leaves these tables, or those before it.
 pub record FilesCalled (host : HostState) (s : JournalState) (r : Result (Unit {0}) JournalFault) (why : Option JournalRefusal) (to : Tables) (words : ℕ) (old new : Device) : Type 0 where
@@ -321,9 +323,12 @@ module _ (now host after : HostState) (s : JournalState) (r : Result (Unit {0}) 
       (left_changed host s r why to words f old new on_inside serves_inside call becomes spares thins h stands_inside action reasons row) call.runs)))
 
   pub change_answered : (answer : Answer) → ((h : Machine) → Stands now old h → fate h action ≡ unless_refused h (option_map journal_answer why) (Works Done (record h { files = f h.files })))
-      → answer ≡ answer_after journal_says journal_answer Done r → Answered action answer now after old new
-  change_answered answer fate_is answer_is = record {
+      → answer ≡ answer_after journal_says journal_answer Done r → Changes (reach action) old new → Answered action answer now after old new
+  change_answered answer fate_is answer_is changes = record {
     step = λ h stands. change_comes h answer stands (fate_is h stands) answer_is;
+    keeps = keeps_inside (is_refusal answer) action now host after (journal_after host s (mode_after journal_says r)) old new inside state
+        (keeps_called journal_says journal_answer r answer (record { good = Done; accepts = refl; is = answer_is }) action host (journal_after host s) old new on_inside
+        (same_host host s r why to words f old new on_inside serves_inside call becomes spares thins) changes);
     printable = subst IsPrintable (sym answer_is) (printable_after journal_says journal_answer files_part Done tt r);
     room = let short = subst (λ a. most_of a ≤ 72) (sym answer_is) (short_after journal_says journal_answer files_part Done (omega arith) r) in subst (λ m. most_of answer ≤ m.room) (sym row) short;
     serves = change_serves;

@@ -34,6 +34,8 @@ use Rattle.machine_host.proofs.ExistsLemmas.{same_state}
 use Rattle.machine_host.proofs.HandledLemmas.{comes_is, fate_given, reasons_are}
 use Rattle.machine_model.proofs.RefusalLemmas.{fate_usable}
 use Rattle.machine_model.specs.OnEvents.{lost_events}
+use Rattle.machine_host.specs.Keeping.{Changes, Reach, reach}
+use Rattle.machine_host.specs.Keeping.Reach.{AnyLine}
 
 -- spans of a mapping are some, at most 8, have bytes, and end where it does
 pub record AreRight (size : ℕ) (spans : List Span) : Type 0 where
@@ -108,13 +110,14 @@ module _ (now : HostState) (d : Device) (on : now.mode ≡ On) (serves : HostSer
 
 -- through a private one nothing is to be done
 pub private_answered : (now : HostState) (d : Device) → now.mode ≡ On → HostServes now d → (action : Action) (handle : ℕ) (look : Look) (spans : List Span) → meaning action ≡ flush_with look handle spans
-    → (m : Mapping) → mapping_of handle now.files.mappings.mappings ≡ Some m → is_shared m.kind ≡ false → spans_refusal m.len spans ≡ None → Answered action Done now now d d
-private_answered now d on serves action handle look spans row m is own right = record {
+    → (m : Mapping) → mapping_of handle now.files.mappings.mappings ≡ Some m → is_shared m.kind ≡ false → spans_refusal m.len spans ≡ None → reach action ≡ AnyLine → Answered action Done now now d d
+private_answered now d on serves action handle look spans row m is own right wide = record {
   step = λ h stands.
       subst (λ f. Comes h action f Done now d d)
       (sym (fate_given now d on serves action handle 72 (flush_through look spans) row m is (spans_refusal m.len spans) right nothing_done
       (ap (λ b. within_mapping (option_map Refused (spans_refusal m.len spans)) (if b then flush_file look m.name (all_moved m.start spans) else nothing_done)) own) h stands refl refl refl))
       (same_state now d h action Done refl stands);
+  keeps = subst (λ (k : Reach). Changes k d d) (sym wide) tt;
   printable = tt;
   room = subst (λ (x : Meaning). 72 ≤ x.room) (sym row) (omega arith);
   serves = serves;

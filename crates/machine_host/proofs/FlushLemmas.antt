@@ -1,5 +1,5 @@
 -- What flushes through mappings come to.
-use Rattle.std.proofs.Common.{◌≡◌, ◌+◌, ◌*◌, ◌≤◌, ◌++◌, ◌∙◌, ℕ, true, Option, Some, None, Result, Ok, Err, OnOk, List, [], ◌∷◌, length, refl, sym, ap, subst, arith}
+use Rattle.std.proofs.Common.{◌≡◌, ◌+◌, ◌*◌, ◌≤◌, ◌++◌, ◌∙◌, ℕ, true, Option, Some, None, Result, Ok, Err, OnOk, List, [], ◌∷◌, length, refl, sym, ap, subst, arith, false}
 use Rattle.std.proofs.lemmas.List.Sums.{sum_by-cons}
 use Rattle.std.proofs.lemmas.Option.{same_Some}
 use Rattle.line_device.specs.Device.{Device}
@@ -58,6 +58,8 @@ use Rattle.machine_host.specs.Flushing.{FlushSaid, LinesTold, Looked}
 use Rattle.machine_model.specs.OnEvents.{lost_events}
 use Rattle.machine_host.proofs.LostLineLemmas.{err_then, heard_of, none_flushed, room_left, same_refused, told_others}
 use Rattle.machine_host.proofs.SyncedLemmas.{few_there, synced_answered, synced_called}
+use Rattle.machine_host.specs.Keeping.{Changes, Reach, is_refusal, reach}
+use Rattle.machine_host.specs.Keeping.Reach.{AnyLine}
 
 -- answers of flushes
 never_starves : (f : FlushFault) → flush_says f ≡ Starves → ⊥
@@ -109,6 +111,16 @@ module _ (name : List ℕ) where
   printable_verify (Err (fault.Verify offset)) = tt
   printable_verify (Err fault.Device) = tt
   printable_verify (Err fault.PowerLost) = tt
+
+  accepts_verify : (r : Result (Unit {0}) FlushFault) → is_refusal (verify_answer name r) ≡ false
+  accepts_verify (Ok done) = refl
+  accepts_verify (Err fault.Range) = refl
+  accepts_verify (Err fault.Length) = refl
+  accepts_verify (Err fault.Limit) = refl
+  accepts_verify (Err (fault.Poison offset)) = refl
+  accepts_verify (Err (fault.Verify offset)) = refl
+  accepts_verify (Err fault.Device) = refl
+  accepts_verify (Err fault.PowerLost) = refl
 
   short_verify : (r : Result (Unit {0}) FlushFault) → most_of (verify_answer name r) ≤ 72
   short_verify (Ok done) = omega arith
@@ -216,8 +228,8 @@ module _ (now host : HostState) (p : PagesState) (r : Result (Unit {0}) FlushFau
         → FilesStand host.files.pages.journal.geo new.medium host.files.pages.journal.tables (change_file file_name file.name (on_pages (persist_spans to)) files))
         → ((files : List File) (file : File) → IsFileAt host.files.pages.journal old.medium inode files file → Looked look r (next_bad_touched to (persist_spans to file.pages) 0))
         → OnOk (flushed r) ((files : List File) (file : File) → IsFileAt host.files.pages.journal old.medium inode files file → e.items ≡ host.files.events.items ++ lost_events host.files.mappings.mappings m.name to file.pages)
-        → answer ≡ answer_after flush_says (flush_answer m.name) (verify_answer m.name r) (flushed r) → Answered action answer now after old new
-    flush_answered answer refused ok looked told answer_is =
+        → answer ≡ answer_after flush_says (flush_answer m.name) (verify_answer m.name r) (flushed r) → reach action ≡ AnyLine → Answered action answer now after old new
+    flush_answered answer refused ok looked told answer_is wide =
         synced_answered flush_says now host p (flushed r) action m.name inode to lines old inside on serves here (flush_answer m.name) (flush_part m.name) after e new state spent flush_leaves call object
         answer (λ pages. flush_refusal pages to) (λ pages. flushed_answer look m.name to pages) (λ pages. quiet_look m.name look (next_bad_touched to (persist_spans to pages) 0))
         (λ h stands found named.
@@ -226,6 +238,7 @@ module _ (now host : HostState) (p : PagesState) (r : Result (Unit {0}) FlushFau
         let whole : m.start + m.len ≤ 4096 * length found.file.pages = subst (λ (f : File). m.start + m.len ≤ 4096 * length f.pages) same among.within in
         fate_flush now old on serves action handle look spans row m is shared right h stands found.file.pages named whole)
         refused ok told (λ files file at. answer_is ∙ told_look look m.name r (next_bad_touched to (persist_spans to file.pages) 0) (looked files file at))
+        (record { good = verify_answer m.name r; accepts = accepts_verify m.name r; is = answer_is }) (subst (λ (k : Reach). Changes k old new) (sym wide) tt)
         (subst IsPrintable (sym answer_is) (printable_after flush_says (flush_answer m.name) (flush_part m.name) (verify_answer m.name r) (printable_verify m.name r) (flushed r)))
         (let short = subst (λ a. most_of a ≤ 72) (sym answer_is) (short_after flush_says (flush_answer m.name) (flush_part m.name) (verify_answer m.name r) (short_verify m.name r) (flushed r)) in
         subst (λ (x : Meaning). most_of answer ≤ x.room) (sym row) short)
@@ -237,8 +250,8 @@ pub flush_told : {D : Type 0} (state : D → Device) (now host after_host : Host
     → FlushSaid state host.files.pages p r look inode moved before after
     → OnOk (flushed r) (LinesTold info.name inode moved (state after).medium (record host.files { pages = p }) f) → OnErr (flushed r) (f ≡ record host.files { pages = p })
     → answer ≡ answer_after flush_says (flush_answer info.name) (verify_answer info.name r) (flushed r)
-    → (action : Action) → meaning action ≡ flush_with look handle spans → Answered action answer now after_host (state before) (state after)
-flush_told state now host after_host p f r handle inode look spans moved before after answer info inside on serves told shared right here moved_is is said lines undone answer_is action row =
+    → (action : Action) → meaning action ≡ flush_with look handle spans → reach action ≡ AnyLine → Answered action answer now after_host (state before) (state after)
+flush_told state now host after_host p f r handle inode look spans moved before after answer info inside on serves told shared right here moved_is is said lines undone answer_is action row wide =
     let m = told.mapping in
     let shown : is_shared m.kind ≡ true = ap (λ (i : MapInfo). is_shared i.kind) told.same ∙ ap is_shared shared in
     let fits : spans_refusal m.len spans ≡ None = ap (λ (i : MapInfo). spans_refusal i.span.len spans) told.same ∙ sym right in
@@ -259,7 +272,7 @@ flush_told state now host after_host p f r handle inode look spans moved before 
     f.events (same_refused flush_says f.events host.files.events (flushed r) (err_then (flushed r) (λ same. ap (λ (x : HeldFiles). x.events) same) undone))
     (room_left host p m.name inode to (state before).medium (state after).medium tables found room s.object.0 f (flushed r) (λ files file at. none_flushed file.pages to (flushed r) (s.refused files file at)) s.ok news))
     s.object.0 answer s.refused s.ok s.looked (heard_of host p m.name inode to (state before).medium (state after).medium tables found room s.object.0 f (flushed r) s.ok news)
-    (answer_is ∙ ap (λ n. answer_after flush_says (flush_answer n) (verify_answer n r) (flushed r)) named)
+    (answer_is ∙ ap (λ n. answer_after flush_says (flush_answer n) (verify_answer n r) (flushed r)) named) wide
 
 -- a file of a shared mapping is there
 pub mapped_found : (now : HostState) (d : Device) (handle : ℕ) (info : MapInfo) → now.mode ≡ On → HostServes now d → (told : Told now.files.mappings.mappings handle info) → None ≡ inode_of info.name now.files.pages.journal.tables.files → ⊥

@@ -33,6 +33,7 @@ use Rattle.machine_host.proofs.HandledLemmas.{all-recopied, all-without, fate_gi
 use Rattle.machine_host.proofs.MapFateLemmas.{has-found}
 use Rattle.machine_host.proofs.MappedLemmas.{IsAmong, among-of, held_by}
 use Rattle.machine_model.proofs.RefusalLemmas.{fate_usable, read_within}
+use Rattle.line_device.proofs.WriteBackLemmas.{write_back-refl}
 
 -- what is true of all mappings is true of the one with a handle
 reach_of : (P : Mapping → Type 0) (handle : ℕ) (ms : List Mapping) (m : Mapping) → mapping_of handle ms ≡ Some m → All P ms → P m
@@ -94,13 +95,13 @@ module _ (now : HostState) (old : Device) (on : now.mode ≡ On) (serves : HostS
   -- the end of a mapping
   pub unmap_refused : mapping_of handle now.files.mappings.mappings ≡ None → Answered (Unmap handle) (Refused because.Handle) now now old old
   unmap_refused is =
-      refused_answered now old (Unmap handle) (Refused because.Handle) on serves refl refl tt (omega arith)
+      refused_answered now old (Unmap handle) (Refused because.Handle) on serves refl refl refl tt (omega arith)
       (λ h stands. ap (λ (o : Option Mapping). first_there (if is_none o then Some (Refused because.Handle) else None) None) (seen_of None is h stands))
 
   pub unmap_answered : (m : Mapping) → mapping_of handle now.files.mappings.mappings ≡ Some m
       → Answered (Unmap handle) Done now (record now { files = record now.files { mappings = record now.files.mappings { mappings = without_mapping handle now.files.mappings.mappings } } }) old old
   unmap_answered m is =
-      remapped_answered now old (Unmap handle) (record now.files.mappings { mappings = without_mapping handle now.files.mappings.mappings }) on serves (omega arith)
+      remapped_answered now old (Unmap handle) (record now.files.mappings { mappings = without_mapping handle now.files.mappings.mappings }) on serves (omega arith) (write_back-refl old.medium)
       (all-without now.files.pages.journal.tables.files handle now.files.mappings.mappings (serves.mounted on).mapped)
       (λ h stands.
       fate_usable h (Unmap handle) refl (sym stands.mode ∙ on)
@@ -122,7 +123,7 @@ module _ (now : HostState) (old : Device) (on : now.mode ≡ On) (serves : HostS
       → (work : List ℕ) (outcome : Outcome) (after : HostState) (new : Device) → ComesTo (FRead info.name (info.span.start + offset) len) work outcome now after old new → ComesTo (Load handle offset len) work outcome now after old new
   load_shared offset len info told shared none work outcome after new comes =
       let was = subst (λ (i : MapInfo). Answered (FRead i.name (i.span.start + offset) len) (outcome_answer work outcome) now after old new) (sym told.same) comes.0 in
-      (answered_as (FRead m.name (m.start + offset) len) (Load handle offset len) (outcome_answer work outcome) now after old new alike (omega arith) was, comes.1)
+      (answered_as (FRead m.name (m.start + offset) len) (Load handle offset len) (outcome_answer work outcome) now after old new alike (omega arith) refl was, comes.1)
     where
       m : Mapping
       m = told.mapping
@@ -150,6 +151,7 @@ module _ (now : HostState) (old : Device) (on : now.mode ≡ On) (serves : HostS
             (ap (λ b. within_mapping (option_map Refused (most_refusal 65536 m.len offset len)) (if b then fread m.name (m.start + offset) len else read_copy m offset len)) own)
             h stands refl refl refl))
             (same_state now old h (Load handle offset len) (Bytes (take len (drop offset m.copy))) refl stands);
+        keeps = write_back-refl old.medium;
         printable = tt;
         room = let few : length (take len (drop offset m.copy)) ≤ len = subst (λ n. n ≤ len) (sym (length-take len (drop offset m.copy))) (min-le_left len (length (drop offset m.copy))) in omega (arith, few, within.2);
         serves = serves;
@@ -169,7 +171,7 @@ module _ (now : HostState) (old : Device) (on : now.mode ≡ On) (serves : HostS
   pub store_shared : (offset : ℕ) (bytes : List ℕ) (info : MapInfo) (told : Told now.files.mappings.mappings handle info) → info.kind ≡ Shared → None ≡ span_refusal info.span.len offset (length bytes)
       → (answer : Answer) (after : HostState) (new : Device) → Answered (FWrite info.name (info.span.start + offset) bytes) answer now after old new → Answered (Store handle offset bytes) answer now after old new
   store_shared offset bytes info told shared none answer after new was =
-      answered_as (FWrite m.name (m.start + offset) bytes) (Store handle offset bytes) answer now after old new alike (omega arith)
+      answered_as (FWrite m.name (m.start + offset) bytes) (Store handle offset bytes) answer now after old new alike (omega arith) refl
       (subst (λ (i : MapInfo). Answered (FWrite i.name (i.span.start + offset) bytes) answer now after old new) (sym told.same) was)
     where
       m : Mapping
@@ -187,7 +189,7 @@ module _ (now : HostState) (old : Device) (on : now.mode ≡ On) (serves : HostS
   store_private offset bytes info told private none =
       let m = told.mapping in
       let own : is_shared m.kind ≡ false = ap (λ (i : MapInfo). is_shared i.kind) told.same ∙ ap is_shared private in
-      remapped_answered now old (Store handle offset bytes) (record now.files.mappings { mappings = change_copy handle (overwritten offset bytes) now.files.mappings.mappings }) on serves (omega arith)
+      remapped_answered now old (Store handle offset bytes) (record now.files.mappings { mappings = change_copy handle (overwritten offset bytes) now.files.mappings.mappings }) on serves (omega arith) tt
       (all-recopied now.files.pages.journal.tables.files handle (overwritten offset bytes) now.files.mappings.mappings (serves.mounted on).mapped)
       (λ h stands.
       fate_given now old on serves (Store handle offset bytes) handle 72 (store_through handle offset bytes) refl m told.is (span_refusal m.len offset (length bytes))

@@ -28,11 +28,13 @@ use Rattle.machine_host.proofs.ExistsLemmas.{same_state}
 use Rattle.machine_model.proofs.RefusalLemmas.{fate_usable, first_assoc}
 use Rattle.machine_host.proofs.TellingLemmas.{tells_nothing}
 use Rattle.machine_host.proofs.RoomLemmas.{room_still}
+use Rattle.machine_host.specs.Keeping.{Changes, is_refusal, reach}
+use Rattle.machine_host.proofs.KeepLemmas.{keeps_refused}
 
 -- A command that is refused for what it names or for its places.
-pub refused_answered : (now : HostState) (d : Device) (action : Action) (answer : Answer) → now.mode ≡ On → HostServes now d → (meaning action).needs ≡ Usable → stop_in answer ≡ None → IsPrintable answer
+pub refused_answered : (now : HostState) (d : Device) (action : Action) (answer : Answer) → now.mode ≡ On → HostServes now d → (meaning action).needs ≡ Usable → stop_in answer ≡ None → is_refusal answer ≡ true → IsPrintable answer
     → most_of answer ≤ longest action → ((h : Machine) → Stands now d h → first_there ((meaning action).reasons h).named ((meaning action).reasons h).places ≡ Some answer) → Answered action answer now now d d
-refused_answered now d action answer on serves needs quiet printable room why = record {
+refused_answered now d action answer on serves needs quiet refuses printable room why = record {
   step = λ h stands.
       let r = (meaning action).reasons h in
       let rest = first_there r.full (first_there (metadata_refusal r.changes_metadata h.bad_meta) r.unreadable) in
@@ -40,6 +42,7 @@ refused_answered now d action answer on serves needs quiet printable room why = 
       (sym (fate_usable h action needs (sym stands.mode ∙ on)
       ∙ ap (λ o. unless_refused h o ((meaning action).comes h)) (sym (first_assoc r.named r.places rest) ∙ ap (λ o. first_there o rest) (why h stands))))
       (same_state now d h action answer quiet stands);
+  keeps = keeps_refused answer action now d refuses;
   printable = printable;
   room = room;
   serves = serves;
@@ -98,11 +101,11 @@ serves_mapped host d ms serves mapped = record {
 }
 
 -- A command that changes mappings alone is done.
-pub remapped_answered : (host : HostState) (d : Device) (action : Action) (ms : MappingsState) → host.mode ≡ On → HostServes host d → 72 ≤ longest action
+pub remapped_answered : (host : HostState) (d : Device) (action : Action) (ms : MappingsState) → host.mode ≡ On → HostServes host d → 72 ≤ longest action → Changes (reach action) d d
     → EachMapping (IsOnFile host.files.pages.journal.tables.files) ms.mappings
     → ((h : Machine) → Stands host d h → fate h action ≡ Gives Done (record h { mappings = ms.mappings; next_handle = ms.next }))
     → Answered action Done host (record host { files = record host.files { mappings = ms } }) d d
-remapped_answered host d action ms on serves room mapped fate_is = record {
+remapped_answered host d action ms on serves room changes mapped fate_is = record {
   step = λ h stands.
       subst (λ f. Comes h action f Done host_now d d) (sym (fate_is h stands)) (record {
         said = answered Done;
@@ -112,6 +115,7 @@ remapped_answered host d action ms on serves room mapped fate_is = record {
         tells = tells_nothing Done refl d.panel;
         stands = stands_mapped host d h ms (stands.device.whole (sym stands.mode ∙ on)) stands;
       });
+  keeps = changes;
   printable = tt;
   room = room;
   serves = serves_mapped host d ms serves (λ _. mapped);
@@ -148,13 +152,13 @@ module _ (now : HostState) (d : Device) (on : now.mode ≡ On) (serves : HostSer
 
   pub no_handle_answered : mapping_of handle now.files.mappings.mappings ≡ None → 72 ≤ room → Answered b (Refused because.Handle) now now d d
   no_handle_answered is roomy =
-      refused_answered now d b (Refused because.Handle) on serves (ap (λ (x : Meaning). x.needs) row) refl tt (subst (λ (x : Meaning). 72 ≤ x.room) (sym row) roomy)
+      refused_answered now d b (Refused because.Handle) on serves (ap (λ (x : Meaning). x.needs) row) refl refl tt (subst (λ (x : Meaning). 72 ≤ x.room) (sym row) roomy)
       (λ h stands. ap (λ (r : Reasons). first_there r.named r.places) (reasons_are None is h stands))
 
   pub no_place_answered : (m : Mapping) → mapping_of handle now.files.mappings.mappings ≡ Some m → (places : Option Why) (why : Why) → places ≡ Some why → (inner : Meaning)
       → of m ≡ within_mapping (option_map Refused places) inner → 72 ≤ room → Answered b (Refused why) now now d d
   no_place_answered m is places why some inner shows roomy =
-      refused_answered now d b (Refused why) on serves (ap (λ (x : Meaning). x.needs) row) refl tt (subst (λ (x : Meaning). 72 ≤ x.room) (sym row) roomy)
+      refused_answered now d b (Refused why) on serves (ap (λ (x : Meaning). x.needs) row) refl refl tt (subst (λ (x : Meaning). 72 ≤ x.room) (sym row) roomy)
       (λ h stands. ap (λ (r : Reasons). first_there r.named r.places) (reasons_are (Some m) is h stands ∙ ap (λ (x : Meaning). x.reasons h) shows) ∙ ap (option_map Refused) some)
 
   -- where it gives at once and nothing refuses it

@@ -10,6 +10,7 @@ pub mod ElsewhereLemmas
 pub mod EventLemmas
 pub mod ToldLemmas
 pub mod StepLemmas
+pub mod KeepLemmas
 pub mod CallLemmas
 pub mod BlockLemmas
 pub mod BlockReadLemmas

@@ -1,15 +1,15 @@
 -- The commands that mark a line, and the one that clears it, by what their calls say.
-use Rattle.std.proofs.Common.{◌≡◌, ◌⊎◌, inr, ℕ, ◌*◌, ◌/◌, ◌<◌, ◌≤◌, ◌||◌, if◌then◌else◌, Bool, true, false, nat_le, nat_lt, Option, Some, None, option_map, Result, Ok, Err, OnOk, List, refl, sym, ap, ap₂, subst, ◌∙◌, arith}
+use Rattle.std.proofs.Common.{◌≡◌, ◌⊎◌, inr, ℕ, ◌*◌, ◌/◌, ◌<◌, ◌≤◌, ◌||◌, if◌then◌else◌, Bool, true, false, nat_le, nat_lt, Option, Some, None, option_map, Result, Ok, Err, OnOk, List, refl, sym, ap, ap₂, subst, ◌∙◌, arith, slice_get, ◌+◌}
 use Rattle.std.specs.Prelude.{IfErr}
 use Rattle.std.proofs.lemmas.Bool.Decides.{nat_tests}
-use Rattle.line_device.specs.Medium.{Medium}
+use Rattle.line_device.specs.Medium.{Medium, WritesBack}
 use Rattle.line_device.specs.Panel.{Runs}
 use Rattle.line_device.specs.Device.{Device}
 use Rattle.line_device.proofs.WriteBackLemmas.{write_back-refl}
 use Rattle.line_words.specs.Told.{Told, Answers, OnRefused, OnWorked, outcome_by, refusal_of}
 use Rattle.line_words.specs.Told.Told.{Refuses, Stops, Starves}
 use Rattle.word_tables.specs.declared.geometry.Geometry.{Geometry}
-use Rattle.word_tables.specs.Layout.{blocks, first_line, size, meta_lines, volume_line, HasLine}
+use Rattle.word_tables.specs.Layout.{blocks, first_line, size, meta_lines, volume_line, HasLine, block_line}
 use Rattle.nvm_model.specs.Blocks.{first_there, lose, nth}
 use Rattle.nvm_model.specs.Cell.{Cell, clear_cell, lose_cell, weaken_cell}
 use Rattle.nvm_model.specs.Page.{Page, cell_of, change_line}
@@ -44,7 +44,7 @@ use Rattle.machine_model.specs.Machine.Fate.{Gives, Works}
 use Rattle.machine_model.specs.Commands.{MayLeaveVolume, fate, longest, meaning, unless_refused}
 use Rattle.machine_model.specs.declared.needs.Needs.TheVariants.{Usable}
 use Rattle.machine_model.specs.Meaning.{metadata_refusal}
-use Rattle.machine_host.specs.Faults.{answer_after}
+use Rattle.machine_host.specs.Faults.{answer_after, IsRoomier}
 use Rattle.machine_model.specs.Interrupted.{stop_in}
 use Rattle.machine_model.specs.OnMedia.{line_answer}
 use Rattle.machine_host.specs.Responding.{Answered}
@@ -55,6 +55,11 @@ use Rattle.machine_host.proofs.MediaLemmas.{IsRefusal, answers_told, blocks_mark
 use Rattle.machine_model.proofs.RefusalLemmas.{fate_worked, first_alone}
 use Rattle.machine_host.proofs.VolumeCallLemmas.{VolumeCalled}
 use Rattle.machine_host.proofs.VolumeLemmas.{volume_behind}
+use Rattle.machine_host.specs.Keeping.{Changes, Reach, is_refusal, reach}
+use Rattle.machine_host.specs.Keeping.Reach.{OneLine}
+use Rattle.machine_host.proofs.KeepLemmas.{but_named, keeps_answer, roomier-same}
+use Rattle.block_map.specs.declared.state.BlockState.{BlockState}
+use Rattle.block_map.specs.declared.state.BlockState.TheVariants.{At}
 
 -- a refusal of a line tells of no interruption, is short, and can be printed
 pub quiet_line : (w : ScrubRefusal) → stop_in (line_answer w) ≡ None
@@ -146,6 +151,9 @@ module _ (host : HostState) (old new : Device) (serves : HostServes host old) (o
       by_told (Stops by) is none = is
       by_told Starves is none = is
 
+  left_same : {E : Type 0} (says : E → Told ScrubRefusal) (r : Result (Unit {0}) E) → OnRefused says r (new ≡ old) → OnRefused says r (IsRoomier host host × WritesBack old.medium new.medium)
+  left_same says r untouched = on_refused-then says r (λ same. (roomier-same host, subst (λ d. WritesBack old.medium d.medium) (sym same) (write_back-refl old.medium))) untouched
+
   pub poison_block_answered : (block line : ℕ) (r : Result (Unit {0}) PlaceFault) (answer : Answer) → Answers place_says (block_refusal host.blocks.geo.blocks (blocks_of host.blocks old.medium) block line) r
       → OnRefused place_says r (new ≡ old) → OnOk r (blocks_of host.blocks new.medium ≡ lose block line (blocks_of host.blocks old.medium)) → WritesBackBut (IsLineOf host.blocks block line) old.medium new.medium
       → BlocksServe host.blocks new.medium → answer ≡ answer_after place_says line_answer Done r → Answered (PoisonBlock block line) answer host host old new
@@ -157,11 +165,17 @@ module _ (host : HostState) (old new : Device) (serves : HostServes host old) (o
         (subst (λ f. Comes h (PoisonBlock block line) f (answer_after place_says line_answer Done r) host old new) (sym (fate_marking host old h (PoisonBlock block line) serves stands on refl refl refl refl refl))
         (comes_of_marking place_says line_answer quiet_line host old new h (record h { blocks = lose block line h.blocks }) (PoisonBlock block line) r (block_refusal h.geometry.blocks h.blocks block line) panel
         (subst (λ o. Answers place_says o r) seen refused) (if_err_all r place_refuses) untouched (on_refused-then place_says r (λ _. stands) untouched) (stands_ok r refused ok h stands)));
+    keeps = keeps_answer place_says line_answer r answer (record { good = Done; accepts = refl; is = answer_is }) (PoisonBlock block line) host host old new (left_same place_says r untouched)
+        (but_named (block_place (slice_get host.blocks.map block)) (IsLineOf host.blocks block line) old.medium new.medium (λ n of. ap block_place of.at ∙ ap (λ k. Some k) (sym of.is)) x);
     printable = subst IsPrintable (sym answer_is) (line_printable place_says r);
     room = subst (λ a. most_of a ≤ 72) (sym answer_is) (short_after place_says r);
     serves = serves_by r refused untouched;
   }
     where
+      block_place : Option BlockState → Option ℕ
+      block_place (Some (At unit)) = Some (block_line host.blocks.geo unit + line)
+      block_place _ = None
+
       of_blocks : line ≤ 7 → (n : ℕ) → IsLineOf host.blocks block line n → IsBlockLine host.geometry n
       of_blocks few n of =
           subst (λ g. IsBlockLine g n) mounted.geometry
@@ -195,14 +209,16 @@ module _ (host : HostState) (old new : Device) (serves : HostServes host old) (o
       → ((pages : List Page) → VolumeHolds host.volume old.medium pages → Answers says (place_refusal host.volume.geo pages offset) r) → IfErr r (λ f. IsRefusal (says f)) → OnRefused says r (new ≡ old)
       → OnOk r ((pages : List Page) → VolumeHolds host.volume old.medium pages → VolumeHolds host.volume new.medium (change_line mark (offset / 64) pages))
       → WritesBackBut (λ line. line ≡ volume_line host.volume.geo (offset / 64)) old.medium new.medium → VolumeServes host.volume new.medium
-      → answer ≡ answer_after says line_answer Done r → Answered action answer host host old new
-  volume_line_answered {E} says mark action offset r answer long row refused told untouched ok x served answer_is = record {
+      → answer ≡ answer_after says line_answer Done r → reach action ≡ OneLine → Answered action answer host host old new
+  volume_line_answered {E} says mark action offset r answer long row refused told untouched ok x served answer_is one = record {
     step = λ h stands.
         let pages = stands.volume on in
         subst (λ a. Comes h action (fate h action) a host old new) (sym answer_is)
         (subst (λ f. Comes h action f (answer_after says line_answer Done r) host old new) (sym (row h stands))
         (comes_of_marking says line_answer quiet_line host old new h (record h { volume = change_line mark (offset / 64) h.volume }) action r (place_refusal h.geometry h.volume offset) panel
         (subst (λ g. Answers says (place_refusal g h.volume offset) r) (mounted.volume_geometry ∙ stands.geometry) (refused h.volume pages)) told untouched (on_refused-then says r (λ _. stands) untouched) (stands_ok r refused ok h stands)));
+    keeps = keeps_answer says line_answer r answer (record { good = Done; accepts = refl; is = answer_is }) action host host old new (left_same says r untouched)
+        (subst (λ (k : Reach). Changes k old new) (sym one) (volume_line host.volume.geo (offset / 64), x));
     printable = subst IsPrintable (sym answer_is) (line_printable says r);
     room = subst (λ n. most_of answer ≤ n) (sym long) (subst (λ a. most_of a ≤ 72) (sym answer_is) (short_after says r));
     serves = serves_by r refused told untouched;

@@ -15,6 +15,7 @@ use Rattle.machine_host.specs.Stands.{HostState, HostServes, Comes}
 use Rattle.machine_host.proofs.ExistsLemmas.{same_state}
 use Rattle.machine_host.proofs.FilesCallLemmas.{listed_seen}
 use Rattle.machine_model.proofs.RefusalLemmas.{fate_usable}
+use Rattle.line_device.proofs.WriteBackLemmas.{write_back-refl}
 
 pub list_answered : (now host : HostState) (d : Device) (files : List FileEntry) → host ≡ now → now.mode ≡ On → HostServes now d → files ≡ listed host.files.pages.journal.tables
     → Answered ListFiles (Files files) now now d d
@@ -23,6 +24,7 @@ list_answered now host d files inside on serves is = record {
       subst (λ f. Comes h ListFiles f (Files files) now d d)
       (sym (fate_usable h ListFiles refl (sym stands.mode ∙ on) ∙ ap (λ l. Gives (Files l) h) (sym (is ∙ listed_seen now host d h inside on serves stands))))
       (same_state now d h ListFiles (Files files) refl stands);
+  keeps = write_back-refl d.medium;
   printable = tt;
   room = omega (arith, few);
   serves = serves;

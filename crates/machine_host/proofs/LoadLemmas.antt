@@ -30,8 +30,10 @@ use Rattle.machine_model.specs.OnVolume.{volume_answer}
 use Rattle.machine_host.specs.Responding.{Answered}
 use Rattle.machine_host.specs.Stands.{HostState, HostServes}
 use Rattle.machine_host.proofs.ElsewhereLemmas.{volume_holds_elsewhere}
-use Rattle.machine_host.proofs.VolumeCallLemmas.{VolumeCalled, volume_part, same_volume, settled_ok, settled_was, volume_after, volume_pages, volume_sizes, work_comes, work_serves}
+use Rattle.machine_host.proofs.VolumeCallLemmas.{VolumeCalled, volume_part, same_volume, settled_ok, settled_was, volume_after, volume_pages, volume_sizes, work_comes, work_serves, same_host}
 use Rattle.machine_host.proofs.VolumeFateLemmas.{fate_vload}
+use Rattle.machine_host.specs.Keeping.{is_refusal}
+use Rattle.machine_host.proofs.KeepLemmas.{AnswersCall, keeps_called, keeps_inside}
 
 -- bytes that are there
 bytes_right : (geo : Geometry) (offset len : ℕ) → 1 ≤ len → offset + len ≤ 4096 * geo.vpages → bytes_refusal geo offset len ≡ None
@@ -78,8 +80,8 @@ module _ (now host after : HostState) (s : VolumeState) (r : Result (Unit {0}) V
   pub load_answered : (answer : Answer) → 1 ≤ len → offset + len ≤ 4096 * now.geometry.vpages → len ≤ 65536
       → ((pages : List Page) → VolumeHolds host.volume old.medium pages → Answers volume_says (load_refusal host.volume pages offset len) r)
       → ((h : Machine) → VolumeHolds host.volume old.medium h.volume → answer ≡ answer_after volume_says volume_answer (Bytes (look h.volume offset len)) r)
-      → IsPrintable answer → most_of answer ≤ longest (VLoad offset len) → Answered (VLoad offset len) answer now after old new
-  load_answered answer some within most refused answer_is printable room = record {
+      → AnswersCall volume_says volume_answer r answer → IsPrintable answer → most_of answer ≤ longest (VLoad offset len) → Answered (VLoad offset len) answer now after old new
+  load_answered answer some within most refused answer_is told printable room = record {
     step = λ h stands.
         let holds = volume_pages now host old h inside on serves stands in
         let there = subst (λ g. offset + len ≤ 4096 * g.vpages) stands.geometry within in
@@ -87,6 +89,8 @@ module _ (now host after : HostState) (s : VolumeState) (r : Result (Unit {0}) V
         (load_refusal host.volume h.volume offset len) h.volume refl stands
         (fate_vload h host.volume (sym stands.mode ∙ on) (volume_sizes now host old h inside on serves stands) offset len some there most (bytes_right h.geometry offset len some there))
         (refused h.volume holds) (on_ok r (holds_after h.volume holds)) (answer_is h holds);
+    keeps = keeps_inside (is_refusal answer) (VLoad offset len) now host after (volume_after host s (mode_after volume_says r)) old new inside state
+        (keeps_called volume_says volume_answer r answer told (VLoad offset len) host (volume_after host s) old new (ap (λ k. k.mode) inside ∙ on) (same_host volume_says host s r old new call.untouched) lines);
     printable = printable;
     room = room;
     serves = work_serves volume_says volume_answer volume_part now host after s r calls 0 old new inside state on serves (VLoad offset len) (λ h stands. (few, omega arith)) (λ h bs same. same) call;

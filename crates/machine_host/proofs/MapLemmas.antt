@@ -55,6 +55,8 @@ use Rattle.machine_host.proofs.StepLemmas.{DeviceLeft, blocks_still, files_still
 use Rattle.machine_host.proofs.TellingLemmas.{tells_work}
 use Rattle.machine_host.proofs.MapToldLemmas.{MapCalled, Makes, map_called, map_part, map_told, ok_told, on_ok_at, told_same}
 use Rattle.machine_host.proofs.RoomLemmas.{room_still}
+use Rattle.machine_host.specs.Keeping.{is_refusal}
+use Rattle.machine_host.proofs.KeepLemmas.{keeps_called, keeps_inside}
 
 -- the host in a mode after the call
 abbrev pub mapped_after : HostState → PagesState → MappingsState → Mode → HostState
@@ -285,6 +287,9 @@ map_answered now host after p ms name span kind r old new inside state on serves
           subst (λ a. Comes h (Map name span kind) (fate h (Map name span kind)) a after old new) (sym same)
           (subst (λ k. Comes h (Map name span kind) (fate h (Map name span kind)) (answer_after map_told (map_answer name) (Handle h.next_handle) r) k old new) (sym state)
           (map_comes host p ms name span kind r old new on_inside serves_inside c h stands_inside));
+      keeps = keeps_inside (is_refusal answer) (Map name span kind) now host after (mapped_after host p ms (mode_after map_told r)) old new inside state
+          (keeps_called map_told (map_answer name) r answer (record { good = Handle host.files.mappings.next; accepts = refl; is = answer_is }) (Map name span kind) host (mapped_after host p ms) old new on_inside
+          (on_inside_refused host p ms name span kind r old new on_inside serves_inside c) c.lines);
       printable = subst IsPrintable (sym answer_is) (printable_after map_told (map_answer name) (map_part name) (Handle host.files.mappings.next) tt r);
       room = subst (λ a. most_of a ≤ 72) (sym answer_is) (short_after map_told (map_answer name) (map_part name) (Handle host.files.mappings.next) (omega arith) r);
       serves = subst (λ k. HostServes k new) (sym state) (map_serves host p ms name span kind r old new on_inside serves_inside c);

@@ -38,7 +38,7 @@ module _ (now : HostState) (d : Device) (on : now.mode ≡ On) (serves : HostSer
   pub mapped_answered : (action : Action) → (meaning action).needs ≡ Usable → 72 ≤ longest action
       → ((h : Machine) → ((meaning action).reasons h).named ≡ first_there (if_missing name h.files) (if_mapped name h.mappings)) → Answered action (Refused because.Mapped) now now d d
   mapped_answered action needs room named =
-      refused_answered now d action (Refused because.Mapped) on serves needs refl tt room
+      refused_answered now d action (Refused because.Mapped) on serves needs refl refl tt room
       (λ h stands.
       ap (λ (o : Option Answer). first_there o ((meaning action).reasons h).places)
       (named h ∙ ap₂ (λ (a b : Bool). first_there (if a then None else Some (Refused because.Missing)) (if b then Some (Refused because.Mapped) else None)) (there h stands) (mapped h stands)))
@@ -61,10 +61,10 @@ module _ (now : HostState) (d : Device) (on : now.mode ≡ On) (serves : HostSer
 
     pub exists_answered : (o : Option ℕ) → o ≡ inode_of to now.files.pages.journal.tables.files → is_some o ≡ true → Answered (Rename name to) (Refused because.Exists) now now d d
     exists_answered o found some =
-        refused_answered now d (Rename name to) (Refused because.Exists) on serves refl refl tt (omega arith)
+        refused_answered now d (Rename name to) (Refused because.Exists) on serves refl refl refl tt (omega arith)
         (λ h stands. ap (λ (r : Option Answer). first_there r None) (why h stands o found ∙ ap (λ (b : Bool). if b then Some (Refused because.Exists) else Some (Refused because.Mapped)) some))
 
     pub renamed_answered : (o : Option ℕ) → o ≡ inode_of to now.files.pages.journal.tables.files → is_some o ≡ false → Answered (Rename name to) (Refused because.Mapped) now now d d
     renamed_answered o found none =
-        refused_answered now d (Rename name to) (Refused because.Mapped) on serves refl refl tt (omega arith)
+        refused_answered now d (Rename name to) (Refused because.Mapped) on serves refl refl refl tt (omega arith)
         (λ h stands. ap (λ (r : Option Answer). first_there r None) (why h stands o found ∙ ap (λ (b : Bool). if b then Some (Refused because.Exists) else Some (Refused because.Mapped)) none))

@@ -18,6 +18,9 @@ use Rattle.machine_model.proofs.RefusalLemmas.{fate_usable}
 use Rattle.machine_host.proofs.RoomLemmas.{room_still, serves_telling, stands_telling, telling}
 use Rattle.machine_host.proofs.TellingLemmas.{tells_nothing}
 use Rattle.reply_text.specs.Answer.Answer.{Happened, NoEvent}
+use Rattle.line_device.proofs.WriteBackLemmas.{write_back-refl}
+use Rattle.machine_host.specs.Keeping.{is_refusal}
+use Rattle.machine_host.proofs.KeepLemmas.{keeps_done}
 
 quiet_event : (events : List Event) → stop_in (told_event events) ≡ None
 quiet_event [] = refl
@@ -30,6 +33,10 @@ printable_event (event ∷ events) = tt
 short_event : (events : List Event) → most_of (told_event events) ≤ 128
 short_event [] = omega arith
 short_event (event ∷ events) = omega arith
+
+accepts_event : (events : List Event) → is_refusal (told_event events) ≡ false
+accepts_event [] = refl
+accepts_event (event ∷ events) = refl
 
 pub next_answered : (now : HostState) (d : Device) (e : Stock Event) → now.mode ≡ On → HostServes now d → e.items ≡ drop 1 now.files.events.items → now.files.events.spare ≤ e.spare
     → Answered NextEvent (told_event now.files.events.items) now (telling e now) d d
@@ -45,6 +52,7 @@ next_answered now d e on serves rest spare = record {
         tells = tells_nothing (told_event now.files.events.items) (quiet_event now.files.events.items) d.panel;
         stands = stands_telling now d h e (drop 1 h.events) (rest ∙ ap (drop 1) same) stands;
       });
+  keeps = keeps_done (told_event now.files.events.items) NextEvent now (telling e now) d d (accepts_event now.files.events.items) (write_back-refl d.medium);
   printable = printable_event now.files.events.items;
   room = short_event now.files.events.items;
   serves = serves_telling now d e serves (λ on. room_still now.files (record now.files { events = e }) d.medium d.medium (λ files stand. stand) spare (serves.mounted on).room);

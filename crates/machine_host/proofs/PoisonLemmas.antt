@@ -170,6 +170,7 @@ poison_meta_answered host old new line serves within w panel = record {
     tells = subst (λ p. Tells (answered Done) old.panel p) (sym panel) (tells_nothing Done refl old.panel);
     stands = stands_poisoned host old new line serves within w panel h stands;
   });
+  keeps = (line, but host old new line serves within w panel);
   printable = tt;
   room = omega arith;
   serves = serves_poisoned host old new line serves within w panel;

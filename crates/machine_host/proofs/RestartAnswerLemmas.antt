@@ -1,5 +1,5 @@
 -- What a restart or a recovery is answered, by its mount.
-use Rattle.std.proofs.Common.{◌≡◌, ◌⊎◌, inl, inr, ◌≤◌, true, IsTrue, None, Result, Ok, Err, MatchResult, refl, sym, ap, subst, ◌∙◌, arith}
+use Rattle.std.proofs.Common.{◌≡◌, ◌⊎◌, inl, inr, ◌≤◌, true, IsTrue, None, Result, Ok, Err, MatchResult, refl, sym, ap, subst, ◌∙◌, arith, false}
 use Rattle.line_device.specs.Medium.{IsSound}
 use Rattle.line_device.specs.Panel.{Panel, Start, Runs, after_restart}
 use Rattle.line_device.specs.Panel.Outcome.{went}
@@ -9,8 +9,8 @@ use Rattle.line_words.specs.declared.interruption.Interruption.{Interruption}
 use Rattle.line_words.specs.declared.interruption.Interruption.TheVariants.{Failed, PowerLost as Lost}
 use Rattle.pm_volume.specs.Object.{VolumeState}
 use Rattle.block_device.specs.Object.{BlocksState}
-use Rattle.recovery.specs.Findings.{first_finding}
-use Rattle.recovery.specs.Mounting.{Finds, mount_outcome}
+use Rattle.recovery.specs.Findings.{first_finding, geometry_told}
+use Rattle.recovery.specs.Mounting.{Finds, IsOfLogs, mount_outcome}
 use Rattle.recovery.specs.declared.Mounted.{Mounted}
 use Rattle.recovery.specs.declared.fault.MountFault.{MountFault}
 use Rattle.recovery.specs.declared.fault.MountFault.TheVariants as fault
@@ -44,10 +44,16 @@ use Rattle.machine_host.proofs.RestartLemmas.{keeps, serves_back, stands_back}
 use Rattle.nvm_base.specs.Stock.{Stock}
 use Rattle.nvm_model.specs.Storage.{Event}
 use Rattle.file_pages.specs.Object.{PagesState}
+use Rattle.line_words.specs.Words.{WritesBackOutside}
+use Rattle.machine_host.specs.Keeping.{is_refusal}
+use Rattle.machine_host.proofs.KeepLemmas.{keeps_done}
 
--- What a mount is answered: that in each state it comes to, in few bytes, and the host may go on.
+-- What a mount is answered: that in each state it comes to, in few bytes, the logs alone may have changed, and the host may go on.
 pub record MountAnswered (host after : HostState) (answer : Answer) (old new : Device) : Type 0 where
   pub step : (h : Machine) → Stands host old h → MountsTo h answer after old new
+  pub accepts : is_refusal answer ≡ false
+  pub starts : new.panel.starts ≡ old.panel.starts
+  pub lines : WritesBackOutside (IsOfLogs (geometry_told old.medium)) old.medium new.medium
   pub printable : IsPrintable answer
   pub room : most_of answer ≤ 72
   pub serves : HostServes after new
@@ -64,6 +70,9 @@ module _ (host : HostState) (old new : Device) (serves : HostServes host old) (u
       → MountAnswered host (record { geometry = host.geometry; mode = modes.On; blocks = s; volume = v; files = just_mounted p e }) answer old new
   mount_done s v p e answer runs found given counts = record {
     step = λ h stands. mounts_done host old new serves unsettled sound x h stands runs found s v p e given answer counts;
+    accepts = ap is_refusal counts.told;
+    starts = runs.orders.starts;
+    lines = x.outside;
     printable = subst IsPrintable (sym counts.told) tt;
     room = subst (λ a. most_of a ≤ 72) (sym counts.told) (omega arith);
     serves = serves_taken host old new serves unsettled sound x runs found s v p e given;
@@ -74,6 +83,9 @@ module _ (host : HostState) (old new : Device) (serves : HostServes host old) (u
       → MountAnswered host (in_mode (unmounted_mode f)) (unmounted_answer f) old new
   mount_refused (fault.Meta line) other finds runs = record {
     step = λ h stands. mounts_bad host old new serves unsettled sound x h stands runs line.0 finds;
+    accepts = refl;
+    starts = runs.orders.starts;
+    lines = x.outside;
     printable = tt;
     room = omega arith;
     serves = serves_unmounted host old new serves unsettled sound x modes.Stopped (runs.cause.0 ∙ on) (λ is. cc is)
@@ -81,18 +93,27 @@ module _ (host : HostState) (old new : Device) (serves : HostServes host old) (u
   }
   mount_refused (fault.Layout at) other finds runs = record {
     step = λ h stands. absurd (never_wrong host old new serves unsettled sound x h stands at finds);
+    accepts = refl;
+    starts = runs.orders.starts;
+    lines = x.outside;
     printable = tt;
     room = omega arith;
     serves = serves_unmounted host old new serves unsettled sound x modes.Unsettled (runs.cause.0 ∙ on) (λ is. cc is) (λ is. cc is);
   }
   mount_refused fault.Device other finds runs = record {
     step = λ h stands. mounts_stopped host old new serves unsettled sound x h stands Failed runs;
+    accepts = refl;
+    starts = runs.orders.starts;
+    lines = x.outside;
     printable = tt;
     room = omega arith;
     serves = serves_unmounted host old new serves unsettled sound x modes.Unsettled (runs.cause.0 ∙ on) (λ is. cc is) (λ is. cc is);
   }
   mount_refused fault.PowerLost other finds runs = record {
     step = λ h stands. mounts_stopped host old new serves unsettled sound x h stands Lost runs;
+    accepts = refl;
+    starts = runs.orders.starts;
+    lines = x.outside;
     printable = tt;
     room = omega arith;
     serves = serves_unmounted host old new serves unsettled sound x modes.Off runs.cause.0 (λ is. cc is) (λ is. cc is);
@@ -123,6 +144,7 @@ module _ (now : HostState) (old new : Device) (unsettled : now.mode ≡ modes.Un
           tells = c.tells;
           stands = c.stands;
         });
+    keeps = keeps_done answer Recover now after old new m.accepts m.lines;
     printable = m.printable;
     room = m.room;
     serves = m.serves;
@@ -183,6 +205,7 @@ module _ (now : HostState) (choice : Choice) (old mid new : Device) (start : Sta
   pub restart_answered : (after : HostState) (answer : Answer) → MountAnswered back after answer mid new → Answered (Restart choice) answer now after old new
   restart_answered after answer m = record {
     step = λ h stands. subst (λ f. Comes h (Restart choice) f answer after old new) (sym (restarts h stands)) (comes_back h stands after answer (m.step (record (restarted h start.image) { mode = modes.Unsettled }) (came h stands)));
+    keeps = keeps_done answer (Restart choice) now after old new m.accepts (record { between = mid; start = start; restarted = left; starts = m.starts; lines = m.lines });
     printable = m.printable;
     room = m.room;
     serves = m.serves;

@@ -1,8 +1,8 @@
 -- What settling a host comes to.
-use Rattle.std.proofs.Common.{◌≡◌, ℕ, Bool, true, false, IsTrue, List, [], ◌∷◌, Some, None, Result, Ok, Err, MatchResult, refl, sym, ap, ap₂, subst, ◌∙◌, arith}
+use Rattle.std.proofs.Common.{◌≡◌, ℕ, Bool, true, false, IsTrue, List, [], ◌∷◌, Some, None, Result, Ok, Err, MatchResult, refl, sym, ap, ap₂, subst, ◌∙◌, arith, ◌⊎◌, inl, inr, ◌/◌}
 use Rattle.std.specs.Prelude.{OnOk, OnErr}
 use Rattle.std.proofs.lemmas.Bool.{false≢true}
-use Rattle.line_device.specs.Medium.{WritesBack, IsSound}
+use Rattle.line_device.specs.Medium.{WritesBack, IsSound, Medium, Waits}
 use Rattle.line_device.specs.Panel.{Panel, Runs, Start, after_disarm}
 use Rattle.line_device.specs.Panel.Outcome.{went}
 use Rattle.line_device.specs.Device.{Device, Restarted, Waited}
@@ -36,6 +36,8 @@ use Rattle.machine_host.proofs.StepLemmas.{stands_ordered}
 use Rattle.nvm_base.specs.Stock.{Stock}
 use Rattle.nvm_model.specs.Storage.{Event}
 use Rattle.file_pages.specs.Object.{PagesState}
+use Rattle.line_device.specs.History.{IsIn, WordWritesBack}
+use Rattle.line_device.proofs.HistoryLemmas.{is_in-word_write_back, word_write_back-trans}
 
 -- what was not armed is not armed later
 pub stays_off : (old new : Bool) → old ≡ false → (IsTrue new → IsTrue old) → new ≡ false
@@ -167,6 +169,7 @@ left_waiting host old new serves off quiet x =
       };
       restarts = x.panel.restarts;
       once = x.panel.once;
+      waiting = λ _. record { same = refl; none = refl; lines = x.lines };
       stands = λ h stands is. cc (is, off);
     }
 
@@ -239,6 +242,7 @@ module _ (host : HostState) (old mid new : Device) (start : Start) (serves : Hos
         asks = asks_back d.asks;
         restarts = omega (arith, restarts);
         once = omega (arith, restarts);
+        waiting = λ is. let came : after.mode ≡ modes.Unsettled = ap (λ (k : HostState). k.mode) d.same in cc (came, is);
         stands = λ h stands is. (
           record (restarted (disarmed h) start.image) { mode = modes.Unsettled },
           subst (λ mode. LeavesUnmounted mode h (start ∷ []) (record (restarted (disarmed h) start.image) { mode = modes.Unsettled })) (sym off)
@@ -251,6 +255,19 @@ module _ (host : HostState) (old mid new : Device) (start : Start) (serves : Hos
   pub settles_back : {E : Type 0} (r : Result (Unit {0}) E) (after : HostState) → MountsAnew r back after mid new → Settles r host after old new
   settles_back (Ok u) after d = settled_back after d
   settles_back (Err e) after d = left_back after d
+
+-- what a refused restart may leave, it may leave of lines that were written back before
+waits-after : (old mid new : Medium) → WritesBack old mid → Waits mid new → Waits old new
+waits-after old mid new x y = record {
+  count = y.count ∙ x.count;
+  bad = λ n. y.bad n ∙ x.bad n;
+  weak = λ n. y.weak n ∙ x.weak n;
+  words = λ p.
+      elim (y.words p) as (λ _. WordWritesBack (old.is_weak (p / 8)) (old.history p) (new.history p) ⊎ ((value : ℕ) × IsIn value (old.history p) × (new.history p ≡ value ∷ []))) [
+        | inl more ↦ inl (word_write_back-trans (old.is_weak (p / 8)) (old.history p) (mid.history p) (new.history p) (x.word_write_back p) (subst (λ b. WordWritesBack b (mid.history p) (new.history p)) (x.weak (p / 8)) more))
+        | inr one ↦ inr (one.0, is_in-word_write_back (old.is_weak (p / 8)) one.0 (old.history p) (mid.history p) (x.word_write_back p) one.1, one.2)
+      ];
+}
 
 -- A device that is disarmed first.
 module _ (host : HostState) (old quiet : Device) (serves : HostServes host old) (w : WritesBack old.medium quiet.medium) (panel : quiet.panel ≡ after_disarm old.panel) where
@@ -351,6 +368,7 @@ module _ (host : HostState) (old quiet : Device) (serves : HostServes host old) 
           asks = d.asks;
           restarts = d.restarts;
           once = d.once;
+          waiting = λ is. let stays = d.waiting is in record { same = stays.same; none = stays.none; lines = waits-after old.medium quiet.medium new.medium w stays.lines };
           stands = λ h stands is.
               let l = d.stands (disarmed h) (stands_disarmed h stands) is in
               (l.0, leaves_disarmed h host.mode d.starts l.0 l.1, l.2);
@@ -367,6 +385,7 @@ module _ (host : HostState) (old quiet : Device) (serves : HostServes host old) 
       asks = d.asks;
       restarts = omega (arith, d.restarts);
       once = omega (arith, d.restarts);
+      waiting = λ is. let still : after.mode ≡ modes.Unsettled = ap (λ (k : HostState). k.mode) d.same ∙ unsettled in cc (still, is);
       stands = λ h stands is. (disarmed h, subst (λ mode. LeavesUnmounted mode h [] (disarmed h)) (sym unsettled) (refl, refl), d.stands h stands);
     }
 

@@ -38,10 +38,12 @@ use Rattle.machine_model.specs.OnPages.{pages_named}
 use Rattle.machine_host.specs.Responding.{Answered}
 use Rattle.machine_host.specs.Stands.{HostServes, HostState, Stands, HasRoom}
 use Rattle.machine_host.proofs.CallLemmas.{IsPart}
-use Rattle.machine_host.proofs.FilePageCallLemmas.{AreReady, LeavesOthers, PagesCalled, pages_after, work_comes, work_serves}
+use Rattle.machine_host.proofs.FilePageCallLemmas.{AreReady, LeavesOthers, PagesCalled, pages_after, work_comes, work_serves, same_host}
 use Rattle.machine_host.proofs.FilePageFateLemmas.{pages_are}
 use Rattle.machine_host.proofs.FilePageLemmas.{file_seen, held_now, journal_now, right_now}
 use Rattle.machine_host.proofs.MapFateLemmas.{has-found}
+use Rattle.machine_host.specs.Keeping.{Changes, is_refusal, reach}
+use Rattle.machine_host.proofs.KeepLemmas.{AnswersCall, keeps_called, keeps_inside}
 
 -- of so many lines no more are there
 pub few_there : (place : ℕ → Option ℕ) (first k : ℕ) → there_among place first k ≤ k
@@ -138,8 +140,8 @@ module _ {E R : Type 0} (says : E → Told R) (now host : HostState) (p : PagesS
         → FilesStand host.files.pages.journal.geo new.medium host.files.pages.journal.tables (change_file file_name file.name (on_pages (persist_spans spans)) files))
         → OnOk r ((files : List File) (file : File) → IsFileAt host.files.pages.journal old.medium inode files file → e.items ≡ host.files.events.items ++ lost_events host.files.mappings.mappings name spans file.pages)
         → ((files : List File) (file : File) → IsFileAt host.files.pages.journal old.medium inode files file → answer ≡ answer_after says answer_to (good file.pages) r)
-        → IsPrintable answer → most_of answer ≤ longest action → Answered action answer now after old new
-    synced_answered answer refusal good quiet fate_is refused ok told answer_is printable room = record {
+        → AnswersCall says answer_to r answer → Changes (reach action) old new → IsPrintable answer → most_of answer ≤ longest action → Answered action answer now after old new
+    synced_answered answer refusal good quiet fate_is refused ok told answer_is call_is changes printable room = record {
       step = λ h stands.
           let found = file_seen now host old inside on serves name h stands inode here in
           let named : pages_named name h.files ≡ found.file.pages = pages_are h name found.file (sym stands.mode ∙ on) (has-found name h.files found.file found.found) found.found in
@@ -148,6 +150,8 @@ module _ {E R : Type 0} (says : E → Told R) (now host : HostState) (p : PagesS
           (quiet found.file.pages) stands (fate_is h stands found named)
           (refused h.files found.file found.at) (synced r ok h.files found.file found.at found.named) (heard r told h stands found.file found.at)
           (answer_is h.files found.file found.at);
+      keeps = keeps_inside (is_refusal answer) action now host after (pages_after host p e (mode_after says r)) old new inside state
+          (keeps_called says answer_to r answer call_is action host (pages_after host p e) old new (ap (λ k. k.mode) inside ∙ on) (same_host says host p e r old new call.untouched) changes);
       printable = printable;
       room = room;
       serves = work_serves says answer_to part now host after p e r lines lines old new inside state on serves action spent leaves call;

@@ -53,6 +53,8 @@ use Rattle.machine_host.proofs.FilesLeftLemmas.{may_leave-same}
 use Rattle.machine_host.proofs.LayoutLemmas.{kept-others, layout-others, metadata-then, same_bad, stays_of_kept}
 use Rattle.machine_model.proofs.RefusalLemmas.{meta_refused}
 use Rattle.machine_host.proofs.StepLemmas.{BlocksAre, DeviceLeft, FilesAre, blocks_still, files_still, stands_done}
+use Rattle.machine_host.specs.Keeping.{Changes, is_refusal, reach}
+use Rattle.machine_host.proofs.KeepLemmas.{keeps_called, keeps_inside}
 
 -- What a call on the volume says, whichever it is. What it may leave is told of the pages that the volume stood for.
 pub record VolumeCalled {T E R : Type 0} (says : E → Told R) (host : HostState) (s : VolumeState) (r : Result T E) (may : List Page → List Page → Type 0) (calls persists : ℕ) (old new : Device) : Type 0 where
@@ -181,7 +183,7 @@ module _ {E R : Type 0} (says : E → Told R) (host : HostState) (s : VolumeStat
   left_worked (Ok x) kept c = left_by kept c.outside c.marks (c.images h.volume (stands.volume on))
   left_worked (Err e) kept c = λ worked. left_by kept c.outside c.marks (c.images worked h.volume (stands.volume on))
 
-same_host : {T E R : Type 0} (says : E → Told R) (host : HostState) (s : VolumeState) (r : Result T E) (old new : Device) → OnRefused says r ((s ≡ host.volume) × (new ≡ old))
+pub same_host : {T E R : Type 0} (says : E → Told R) (host : HostState) (s : VolumeState) (r : Result T E) (old new : Device) → OnRefused says r ((s ≡ host.volume) × (new ≡ old))
     → OnRefused says r ((volume_after host s host.mode ≡ host) × (new ≡ old))
 same_host says host s (Ok x) old new untouched = tt
 same_host says host s (Err e) old new untouched = λ told. let same = untouched told in (ap (λ v. record host { volume = v }) same.0, same.1)
@@ -284,9 +286,11 @@ module _ {E R : Type 0} (says : E → Told R) (answer_to : R → Answer) (part :
   pub work_answered : (answer : Answer) (why : List Page → Option R) (to : Machine → List Page) → longest action ≡ 72
       → ((h : Machine) → Stands now old h → fate h action ≡ unless_refused h (option_map answer_to (why h.volume)) (Works Done (record h { volume = to h })))
       → ((h : Machine) → Stands now old h → Answers says (why h.volume) r) → ((h : Machine) → Stands now old h → OnOk r (VolumeHolds s new.medium (to h)))
-      → answer ≡ answer_after says answer_to Done r → Answered action answer now after old new
-  work_answered answer why to long fate_is refused ok answer_is = record {
+      → answer ≡ answer_after says answer_to Done r → Changes (reach action) old new → Answered action answer now after old new
+  work_answered answer why to long fate_is refused ok answer_is changes = record {
     step = λ h stands. work_comes says answer_to part now host after s r calls persists old new inside state on serves action few kept call h Done answer (why h.volume) (to h) refl stands (fate_is h stands) (refused h stands) (ok h stands) answer_is;
+    keeps = keeps_inside (is_refusal answer) action now host after (volume_after host s (mode_after says r)) old new inside state
+        (keeps_called says answer_to r answer (record { good = Done; accepts = refl; is = answer_is }) action host (volume_after host s) old new (ap (λ k. k.mode) inside ∙ on) (same_host says host s r old new call.untouched) changes);
     printable = subst IsPrintable (sym answer_is) (printable_after says answer_to part Done tt r);
     room = let short = subst (λ a. most_of a ≤ 72) (sym answer_is) (short_after says answer_to part Done (omega arith) r) in subst (λ n. most_of answer ≤ n) (sym long) short;
     serves = work_serves says answer_to part now host after s r calls persists old new inside state on serves action few kept call;

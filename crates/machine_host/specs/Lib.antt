@@ -2,6 +2,7 @@ pub mod Lines
 pub mod Flushing
 pub mod Stands
 pub mod Faults
+pub mod Keeping
 pub mod Responding
 pub mod Settling
 pub use Rattle.machine_model.specs.Costs

@@ -9,6 +9,7 @@ use Rattle.machine_model.specs.Costs.{mount_calls, mount_persists}
 use Rattle.machine_model.specs.Telling.{bumped_by}
 pub use Rattle.machine_model.specs.Settling.{LeavesUnmounted, SettlesTo, disarmed}
 use Rattle.machine_host.specs.Stands.{HostState, HostServes, Stands}
+use Rattle.line_device.specs.Medium.{Waits}
 
 -- the host may go on, and stands with its device for some state
 pub record GoesOn (host : HostState) (d : Device) : Type 0 where
@@ -63,7 +64,14 @@ is_down modes.Off = true
 is_down modes.Unsettled = true
 is_down modes.Stopped = false
 
--- There was no memory for a settling: a mount was to come and is to come, and at most one restart was done, or refused.
+-- The restart was refused: no start was told, and the host is as it was.
+pub record StaysOff (starts : List Start) (host after : HostState) (old new : Device) : Type 0 where
+  pub same : after ≡ host
+  pub none : starts ≡ []
+  pub lines : Waits old.medium new.medium
+
+-- There was no memory for a settling: a mount was to come and is to come, and at most one restart was done, or refused, after which
+-- the host is off still.
 pub record LeftUnsettled (host after : HostState) (old : Device) (quiet : Panel) (new : Device) : Type 0 where
   pub starts : List Start
   pub few : length starts ≤ 1
@@ -73,6 +81,7 @@ pub record LeftUnsettled (host after : HostState) (old : Device) (quiet : Panel)
   pub asks : Asks starts quiet new.panel
   pub restarts : bumped_by starts quiet.counts.restarts ≤ new.panel.counts.restarts
   pub once : new.panel.counts.restarts ≤ quiet.counts.restarts + 1
+  pub waiting : after.mode ≡ modes.Off → StaysOff starts host after old new
   pub stands : (h : Machine) → Stands host old h → after.mode ≡ modes.Unsettled
       → (next : Machine) × LeavesUnmounted host.mode h starts next × Stands after new next
 

@@ -1,5 +1,5 @@
--- When a host and its device stand for a state of the machine, and what one step is.
-use Rattle.std.specs.Prelude.{◌≡◌, ◌≢◌, ◌+◌, ◌*◌, ◌/◌, ◌<◌, ◌≤◌, ◌++◌, ℕ, Bool, true, false, IsTrue, List, [], ◌∷◌, Option, Some, None}
+-- When a host and its device stand for a state of the machine, and what a command comes to.
+use Rattle.std.specs.Prelude.{◌≡◌, ◌≢◌, ◌+◌, ◌*◌, ◌/◌, ◌<◌, ◌≤◌, ℕ, Bool, true, false, IsTrue, List, [], ◌∷◌, Option, Some, None}
 use Rattle.line_device.specs.Medium.{Medium, last_image}
 use Rattle.line_device.specs.Device.{Device}
 use Rattle.line_words.specs.Words.{IsOnly}
@@ -8,12 +8,12 @@ use Rattle.word_tables.specs.declared.geometry.Geometry.{Geometry}
 use Rattle.block_device.specs.Object.{BlocksState, BlocksServe, blocks_of}
 use Rattle.block_device.specs.Images.{AreReadable, EachReads}
 use Rattle.script_text.specs.Action.{Action}
-use Rattle.reply_text.specs.Answer.{Answer, answer_line}
+use Rattle.reply_text.specs.Answer.{Answer}
 use Rattle.machine_host.specs.declared.held.HeldFiles.{HeldFiles}
 use Rattle.machine_model.specs.declared.mode.Mode.{Mode}
 use Rattle.machine_model.specs.declared.mode.Mode.TheVariants as modes
 use Rattle.machine_model.specs.Machine.{Machine, Fate}
-use Rattle.machine_model.specs.Commands.{MayLeaveBlocks, MayLeaveFiles, MayLeaveVolume, fate}
+use Rattle.machine_model.specs.Commands.{MayLeaveBlocks, MayLeaveFiles, MayLeaveVolume}
 use Rattle.machine_model.specs.Run.{Transcript, Takes}
 use Rattle.machine_model.specs.Telling.{Tells}
 use Rattle.machine_host.specs.Lines.{HasLayout, MetadataStands}
@@ -138,9 +138,3 @@ pub record Comes (h : Machine) (action : Action) (fate : Fate) (answer : Answer)
   pub takes : Takes h action fate said next
   pub tells : Tells said old.panel new.panel
   pub stands : Stands host new next
-
--- one step: what came of the command is answered by one line
-pub record Steps (h : Machine) (action : Action) (out_old out_new : List ℕ) (host : HostState) (old new : Device) : Type 0 where
-  pub answer : Answer
-  pub comes : Comes h action (fate h action) answer host old new
-  pub line : out_new ≡ out_old ++ answer_line answer

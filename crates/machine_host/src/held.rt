@@ -1,5 +1,5 @@
 // The files of a host, and the media errors in them that are still to be told.
-ghost use Rattle.std.specs.Prelude.{◌≡◌, ◌+◌, ◌++◌, [], ◌∷◌, ◌<◌, ◌≤◌, ◌^◌, All, List, OnErr, OnOk, if◌then◌else◌};
+ghost use Rattle.std.specs.Prelude.{◌≡◌, ◌+◌, ◌++◌, [], ◌∷◌, ◌<◌, ◌≤◌, ◌^◌, false, All, List, OnErr, OnOk, if◌then◌else◌};
 ghost use Rattle.inode_table.specs.Slots.{pages_at};
 ghost use Rattle.nvm_model.specs.Events.{weak_file_lines};
 ghost use Rattle.nvm_model.specs.Storage.{File};
@@ -81,6 +81,7 @@ impl HeldFiles {
         requires reach { line < 2 ^ 30 }
         ensures items { self.new.events.items ≡ self.old.events.items ++ (if is_news then line_event self.old.mappings.mappings name.now line ∷ [] else []) }
         ensures spare { self.old.events.spare ≤ self.new.events.spare + 1 }
+        ensures silent { is_news ≡ false → self.new ≡ self.old }
         ensures others { self.new ≡ record self.old { events = self.new.events } }
     {
         if is_news {

@@ -92,13 +92,14 @@ impl Host {
     ghost use Rattle.machine_model.specs.Machine.{Machine, bad_of};
     ghost use Rattle.machine_host.specs.Lines.{MetadataStands};
     ghost use Rattle.machine_model.specs.OnFileErrors.{is_weak_there};
-    ghost use Rattle.machine_host.specs.Stands.{Comes, HostServes, IsFlushed, Stands, Steps};
+    ghost use Rattle.machine_host.specs.Stands.{Comes, HostServes, IsFlushed, Stands};
     ghost use Rattle.machine_model.specs.Restarting.{reading};
     ghost use Rattle.machine_model.specs.Costs.{mount_calls, mount_persists};
     ghost use Rattle.machine_host.specs.Faults.{Leaves};
     ghost use Rattle.machine_host.specs.Settling.{LeftUnsettled, Settled, is_down};
     ghost use Rattle.machine_model.specs.Commands.{fate, may_want_memory};
-    ghost use Rattle.machine_host.specs.Responding.{IsWithin, outcome_answer};
+    ghost use Rattle.machine_host.specs.Keeping.{Keeps, is_refusal};
+    ghost use Rattle.machine_host.specs.Responding.{IsWithin, Steps, outcome_answer};
 
     /// The host of a device, of the sizes that its superblock has. It mounts the device, and takes its work buffer.
     pub fn mount<D: LineDevice>(alloc: Global, device: &mut D) -> Result<Self, MountFault>
@@ -200,7 +201,7 @@ impl Host {
 
         // It is one step of the machine, whichever state host and device stand for and whatever is armed.
         ensures step { OnOk result ((h : Machine) → Stands self.old (D.state device.old) h
-            → Steps h (action_of command.now) out.old.items out.new.items self.new (D.state device.old) (D.state device.new)) }
+            → Steps h (action_of command.now) out.old.items out.new.items self.old self.new (D.state device.old) (D.state device.new)) }
         ensures memory { OnErr result ((out.new.items ≡ out.old.items)
             × Leaves (action_of command.now) self.old self.new (D.state device.old) (D.state device.new)) }
         // Where there is room for the longest line of bytes that are read, only these commands may want memory.
@@ -228,6 +229,8 @@ impl Host {
         requires wide { length work.old ≡ 65536 }
         ensures step { IfOk result (λ outcome. (h : Machine) → Stands self.old (D.state device.old) h
             → Comes h (action_of command.now) (fate h (action_of command.now)) (outcome_answer work.new outcome) self.new (D.state device.old) (D.state device.new)) }
+        ensures keeps { IfOk result (λ outcome.
+            Keeps (is_refusal (outcome_answer work.new outcome)) (action_of command.now) self.old self.new (D.state device.old) (D.state device.new)) }
         ensures within { IfOk result (λ outcome. IsWithin work.new outcome) }
         ensures memory { OnErr result (Leaves (action_of command.now) self.old self.new (D.state device.old) (D.state device.new)) }
         ensures serves { HostServes self.new (D.state device.new) }

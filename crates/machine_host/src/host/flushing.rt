@@ -17,6 +17,8 @@ ghost use Rattle.reply_text.specs.Answer.Answer.{Done};
 ghost use Rattle.machine_model.specs.declared.mode.Mode.TheVariants.{On};
 ghost use Rattle.machine_model.specs.Commands.{meaning};
 ghost use Rattle.machine_host.specs.Flushing.{FlushSaid, HoldsLost, LinesTold};
+ghost use Rattle.machine_host.specs.Keeping.{reach};
+ghost use Rattle.machine_host.specs.Keeping.Reach.{AnyLine};
 ghost use Rattle.machine_host.specs.Faults.{answer_after, flush_answer, mode_after, verify_answer};
 ghost use Rattle.machine_model.specs.OnFlushes.{all_moved, flush_with, spans_refusal};
 ghost use Rattle.machine_host.specs.Responding.{Answered};
@@ -48,7 +50,7 @@ impl Performer {
         requires serves { HostServes self.old (D.state device.old) }
         requires on { self.old.mode ≡ On }
         requires small { All IsSmall spans.now }
-        ensures { (action : Action) → meaning action ≡ flush_with look handle spans.now
+        ensures { (action : Action) → meaning action ≡ flush_with look handle spans.now → reach action ≡ AnyLine
             → Answered action (answer_of result) self.old self.new (D.state device.old) (D.state device.new) }
     {
         let Some(info) = self.files.mappings.get(handle) else {
@@ -79,7 +81,7 @@ impl Performer {
         requires reach { info.now.span.start ≤ 2 ^ 40 }
         requires shared { info.now.kind ≡ Shared }
         requires right { None ≡ spans_refusal info.now.span.len spans.now }
-        ensures { (action : Action) → meaning action ≡ flush_with look handle spans.now
+        ensures { (action : Action) → meaning action ≡ flush_with look handle spans.now → reach action ≡ AnyLine
             → Answered action (answer_of result) self.old self.new (D.state device.old) (D.state device.new) }
     {
         let Some(inode) = self.files.pages.journal().find(&info.name) else {

@@ -9,6 +9,7 @@ use Rattle.machine_host.proofs.StepLemmas.{comes_of_refusal, leaves_all, on_err,
 use Rattle.machine_model.proofs.RefusalLemmas.{early_plain}
 use Rattle.machine_host.proofs.WantingLemmas.{no_error, wanted}
 use Rattle.machine_host.proofs.host.Host.step.Goals as goal
+use Rattle.machine_host.proofs.KeepLemmas.{early_refuses, keeps_refused}
 
 pub print-requires : goal.print-requires
 print-requires g c = record { printable = (early_plain _ _ _ (action_of c.args.command.now) (answer_of c.in-Some.reply) (sym c.in-Some.ensures)).printable }
@@ -22,6 +23,7 @@ returns-in-Some-clause-step g c =
     IfOk-weaker c.print.result _ _ (λ _ line h stands. record {
       answer = answer_of c.in-Some.reply;
       comes = comes_of_refusal c.args.self.now _ h (action_of c.args.command.now) (answer_of c.in-Some.reply) stands refused;
+      keeps = keeps_refused (answer_of c.in-Some.reply) (action_of c.args.command.now) c.args.self.now _ (early_refuses _ _ _ (action_of c.args.command.now) (answer_of c.in-Some.reply) refused);
       line = line;
     }) c.print.ensures.ok
 

@@ -17,4 +17,4 @@ returns g c =
     let refused = subst (λ o. blocks.Answers o c.atomic_write-call.result) (sym (first_assoc (bytes_refusal geo.blocks c.args.block (length c.args.bytes.now)) (where_ (nat_lt 64 (length c.args.bytes.now / 512)) Limit) (meta_refusal geo old.medium))) said.refused in
     change_answered _ _ _ _ c.atomic_write-call.result _ _ _ _ c.self.view_is c.answer.ensures.state c.requires.on c.requires.serves (BAtomic c.args.block c.args.bytes.now) (λ h. omega arith) (λ h. omega arith)
     (called g.D.Lines.state _ _ c.atomic_write-call.result _ _ _ _ _ (places c.self.inside.blocks.geo.blocks) refused said.untouched said.images said.outside said.serves said.object said.runs)
-    _ places _ _ _ _ refl (λ h. refl) refused said.ok c.answer.ensures.answer
+    _ places _ _ _ _ refl (λ h. refl) refused said.ok c.answer.ensures.answer tt

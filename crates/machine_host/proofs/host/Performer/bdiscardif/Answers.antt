@@ -10,4 +10,4 @@ returns g c =
     let places : ℕ → Option Refusal = λ blocks. spans_refusal blocks (record { start = c.args.block; len = c.args.count } ∷ []) in
     change_answered _ _ _ _ c.discard_hint-call.result _ _ _ _ c.self.view_is c.answer.ensures.state c.requires.on c.requires.serves (BDiscardIf c.args.block c.args.count) (λ h. omega arith) (λ h. omega arith)
     (called g.D.Lines.state _ _ c.discard_hint-call.result _ _ _ _ _ (places c.self.inside.blocks.geo.blocks) said.refused said.untouched said.images said.outside said.serves said.object said.runs)
-    _ places _ _ _ _ refl (λ h. refl) said.refused said.ok c.answer.ensures.answer
+    _ places _ _ _ _ refl (λ h. refl) said.refused said.ok c.answer.ensures.answer tt

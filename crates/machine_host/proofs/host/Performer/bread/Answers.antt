@@ -1,7 +1,7 @@
-use Rattle.std.proofs.Common.{◌≡◌, ◌*◌, ◌/◌, ℕ, Ok, Err, length, take, drop, ap, ◌∙◌, arith}
+use Rattle.std.proofs.Common.{◌≡◌, ◌*◌, ◌/◌, ℕ, Ok, Err, length, take, drop, ap, ◌∙◌, arith, refl}
 use Rattle.block_device.specs.Object.{blocks_of}
 use Rattle.nvm_model.specs.Blocks.{look_blocks}
-use Rattle.reply_text.specs.Answer.Answer.{Bytes}
+use Rattle.reply_text.specs.Answer.Answer.{Bytes, Done}
 use Rattle.machine_host.specs.Faults.{fault_mode}
 use Rattle.machine_host.proofs.BlockReadLemmas.{length-look, printable_fault, read_answered, room_of_fault}
 use Rattle.machine_host.proofs.WorkLemmas.{head_is, head_length, head_short, head_within}
@@ -22,7 +22,7 @@ returns-in-Ok g c =
       read_answered _ _ _ _ (Ok tt) c.args.block c.args.count _ _ (Unit {0}) _ _ c.self.view_is (ap (λ m. record { geometry = c.self.inside.geometry; mode = m; blocks = c.read_into.new.self; volume = c.self.inside.volume; files = c.self.inside.files }) on)
           c.requires.on c.requires.serves (omega (arith, size)) size tt said.lines said.serves said.object said.runs _ c.requires.some c.requires.few c.requires.within said.refused
           (λ h stays. ap (λ bytes. Bytes bytes) (head_is n out rest long ∙ same ∙ ap (λ bs. look_blocks bs c.args.block c.args.count) stays))
-          (head_short n out rest long) tt,
+          (record { good = _; accepts = refl; is = refl }) (head_short n out rest long) tt,
       head_within n out rest long,
     )
 
@@ -35,6 +35,6 @@ returns-in-Err g c =
       read_answered _ _ _ _ (Err c.in-Err.fault) c.args.block c.args.count _ _ _ _ _ c.self.view_is (c.fault.ensures.state ∙ ap (λ m. record { geometry = c.self.inside.geometry; mode = fault_mode m c.in-Err.fault; blocks = c.read_into.new.self; volume = c.self.inside.volume; files = c.self.inside.files }) on)
           c.requires.on c.requires.serves (omega (arith, size)) size
           (λ told. let same = said.untouched told in (same.0, ap (λ d. g.D.Lines.state d) same.1)) said.lines said.serves said.object said.runs _ c.requires.some c.requires.few c.requires.within said.refused
-          (λ _ _. c.fault.ensures.answer) (room_of_fault c.in-Err.fault _ c.args.count c.fault.ensures.answer) (printable_fault c.in-Err.fault _ c.fault.ensures.answer),
+          (λ _ _. c.fault.ensures.answer) (record { good = Done; accepts = refl; is = c.fault.ensures.answer }) (room_of_fault c.in-Err.fault _ c.args.count c.fault.ensures.answer) (printable_fault c.in-Err.fault _ c.fault.ensures.answer),
       tt,
     )

@@ -37,4 +37,4 @@ returns g c =
     (sym sizes) (fate_clear now old h c.args.offset c.requires.serves stands c.requires.on))
     (λ h stands. said.refused h.volume (volume_pages now host old h c.self.view_is c.requires.on c.requires.serves stands))
     (λ h stands. of_pages _ _ _ _ _ (change_line clear_cell (c.args.offset / 64)) h.volume said.ok (volume_pages now host old h c.self.view_is c.requires.on c.requires.serves stands))
-    c.cleared.ensures.answer
+    c.cleared.ensures.answer tt

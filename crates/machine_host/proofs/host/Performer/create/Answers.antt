@@ -25,4 +25,4 @@ returns g c =
     (λ files. let same = new-weak c.args.name.now c.args.pages files in omega (arith, same))
     (Create c.args.name.now c.args.pages) (λ h. record no_reasons { named = if_exists c.args.name.now h.files; places = if_many_pages c.args.pages; full = if_many_files h.files }) refl _
     (λ h stands. fate_create h host.files.pages.journal old.medium (sees_files now host old h inside c.requires.on c.requires.serves stands) c.args.name.now c.args.pages)
-    c.journal_answer.ensures.answer
+    c.journal_answer.ensures.answer tt

@@ -19,6 +19,7 @@ returns g c =
     subst (λ k. Answered Cut Done k (record host { mode = Off }) old new) c.self.view_is (record {
       step = λ h stands. comes_placed host _ old new h Cut Done stands (λ bad_meta. power_allows c.self.inside.mode bad_meta (λ off. c.requires.powered (sym (ap (λ k. k.mode) c.self.view_is) ∙ off))) refl refl
           (comes_of_cut host old new h stands serves said.lines said.panel);
+      keeps = said.lines;
       printable = tt;
       room = omega arith;
       serves = serves_ordered host Off old new serves said.lines (ap (λ p. p.power) said.panel) (λ on. cc) (λ stop. cc stop);

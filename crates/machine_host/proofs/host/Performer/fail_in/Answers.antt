@@ -10,6 +10,7 @@ pub returns : goal.returns
 returns g c = record {
   step = λ h stands. comes_placed c.args.self.now c.args.self.now _ _ h (FailIn c.args.calls) Done stands (always_allowed c.args.self.now.mode) refl (calls_right _ c.requires.some)
       (comes_of_fail_in c.args.self.now _ _ h c.args.calls stands c.requires.serves c.arm_fail.ensures.lines c.arm_fail.ensures.panel);
+  keeps = c.arm_fail.ensures.lines;
   printable = tt;
   room = omega arith;
   serves = serves_ordered c.args.self.now c.args.self.now.mode _ _ c.requires.serves c.arm_fail.ensures.lines (ap (λ p. p.power) c.arm_fail.ensures.panel ∙ c.requires.serves.power) (λ on. on) (λ stop. stop);

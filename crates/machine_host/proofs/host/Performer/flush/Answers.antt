@@ -10,12 +10,12 @@ use Rattle.machine_host.proofs.HandledLemmas.{no_handle_answered, no_place_answe
 use Rattle.machine_host.proofs.host.Performer.flush.Goals as goal
 
 pub returns-in_default : goal.returns-in_default
-returns-in_default g c = λ action row.
+returns-in_default g c = λ action row wide.
     no_handle_answered c.args.self.now _ c.requires.on c.requires.serves action c.args.handle 72 (flush_through c.args.look c.args.spans.now) row
     (ap (λ (k : HostState). mapping_of c.args.handle k.files.mappings.mappings) (sym c.self.view_is) ∙ told_none c.self.inside.files.mappings.mappings c.args.handle c.in_default.ensures.info) (omega arith)
 
 pub returns-in-Some-spans_refusal : goal.returns-in-Some-spans_refusal
-returns-in-Some-spans_refusal g c = λ action row.
+returns-in-Some-spans_refusal g c = λ action row wide.
     let told = told_of c.args.self.now.files.mappings.mappings c.args.handle c.in-Some.info (c.in-Some.ensures.info ∙ ap (λ (k : HostState). option_map info_of (mapping_of c.args.handle k.files.mappings.mappings)) c.self.view_is) in
     let m = told.mapping in
     let spans = c.args.spans.now in
@@ -33,7 +33,7 @@ pub flush_shared-requires-clause-told : goal.flush_shared-requires-clause-told
 flush_shared-requires-clause-told g c = c.in-Some.ensures.info ∙ ap (λ (k : HostState). option_map info_of (mapping_of c.args.handle k.files.mappings.mappings)) c.self.view_is
 
 pub returns-in-Private : goal.returns-in-Private
-returns-in-Private g c = λ action row.
+returns-in-Private g c = λ action row wide.
     let told = told_of c.args.self.now.files.mappings.mappings c.args.handle c.in-Some.info (c.in-Some.ensures.info ∙ ap (λ (k : HostState). option_map info_of (mapping_of c.args.handle k.files.mappings.mappings)) c.self.view_is) in
     private_answered c.args.self.now _ c.requires.on c.requires.serves action c.args.handle c.args.look c.args.spans.now row told.mapping told.is
-    (ap (λ (i : MapInfo). is_shared i.kind) told.same ∙ ap is_shared c.in-Private.is) (ap (λ (i : MapInfo). spans_refusal i.span.len c.args.spans.now) told.same ∙ sym c.in_default-spans_refusal.ensures)
+    (ap (λ (i : MapInfo). is_shared i.kind) told.same ∙ ap is_shared c.in-Private.is) (ap (λ (i : MapInfo). spans_refusal i.span.len c.args.spans.now) told.same ∙ sym c.in_default-spans_refusal.ensures) wide

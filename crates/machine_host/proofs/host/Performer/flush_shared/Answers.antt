@@ -29,7 +29,7 @@ tell_flushed-requires-clause-room g c =
     (λ files file at. none_flushed file.pages (take (length c.args.spans.now) c.all_moved-moved.result) (flushed c.flush_file-call.result) (said.refused files file at)) said.ok
 
 pub returns : goal.returns
-returns g c = λ action row.
+returns g c = λ action row wide.
     let now = c.args.self.now in
     let host : HostState = record { geometry = c.self.inside.geometry; mode = c.self.inside.mode; blocks = c.self.inside.blocks; volume = c.self.inside.volume; files = c.self.inside.files } in
     let told = told_of now.files.mappings.mappings c.args.handle c.args.info.now c.requires.told in
@@ -37,4 +37,4 @@ returns g c = λ action row.
     flush_told g.D.Lines.state now host c.flushed.new.self c.flush_file-call.new.pages c.tell_flushed.new.self c.flush_file-call.result c.args.handle c.in-Some.inode c.args.look c.args.spans.now
     (take (length c.args.spans.now) c.all_moved-moved.result) c.args.device.now c.flush_file-call.new.device _ c.args.info.now
     c.self.view_is c.requires.on c.requires.serves told c.requires.shared c.requires.right here c.all_moved-moved.ensures c.flushed.ensures.state
-    c.flush_file-call.ensures.said c.tell_flushed.ensures.done c.tell_flushed.ensures.undone c.flushed.ensures.answer action row
+    c.flush_file-call.ensures.said c.tell_flushed.ensures.done c.tell_flushed.ensures.undone c.flushed.ensures.answer action row wide

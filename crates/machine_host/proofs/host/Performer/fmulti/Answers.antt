@@ -14,7 +14,7 @@ returns-in-Some g c =
     let name = c.args.name.now in
     let here : inode_of name host.files.pages.journal.tables.files ≡ Some c.in-Some.inode = ap (λ (j : JournalState). inode_of name j.tables.files) (sym c.journal.ensures) ∙ sym c.in-Some.ensures.value in
     together_answered g.D.Lines.state c.args.self.now host _ _ c.atomic_multiwrite-call.result name c.in-Some.inode _ _ c.self.view_is c.action_answer.ensures.state c.requires.on c.requires.serves here
-    (FMulti name c.args.ranges.now c.args.bytes.now) c.args.ranges.now c.args.bytes.now refl
+    (FMulti name c.args.ranges.now c.args.bytes.now) c.args.ranges.now c.args.bytes.now refl refl
     (record {
       refused = said.refused;
       untouched = said.untouched;

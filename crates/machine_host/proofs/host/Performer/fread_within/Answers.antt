@@ -1,4 +1,4 @@
-use Rattle.std.proofs.Common.{◌≡◌, ◌+◌, ◌*◌, ◌≤◌, Ok, Err, Some, length, take, drop, sym, ap, subst, ◌∙◌, arith}
+use Rattle.std.proofs.Common.{◌≡◌, ◌+◌, ◌*◌, ◌≤◌, Ok, Err, Some, length, take, drop, sym, ap, subst, ◌∙◌, arith, refl}
 use Rattle.inode_table.specs.Slots.{inode_of, pages_at}
 use Rattle.line_words.specs.Told.{Answers}
 use Rattle.nvm_base.specs.Units.{units_of}
@@ -8,7 +8,7 @@ use Rattle.file_pages.specs.Costs.{lines_there}
 use Rattle.file_pages.specs.Object.{file_place}
 use Rattle.file_pages.specs.Refusals.{page_says, read_refusal}
 use Rattle.reply_text.specs.Answer.{IsPrintable}
-use Rattle.reply_text.specs.Answer.Answer.{Bytes}
+use Rattle.reply_text.specs.Answer.Answer.{Bytes, Done}
 use Rattle.reply_text.specs.Room.{most_of}
 use Rattle.machine_host.specs.Faults.{page_fault_mode}
 use Rattle.machine_model.specs.OnPages.{page_answer}
@@ -37,7 +37,7 @@ returns-in-Ok g c =
           (subst (λ (k : HostState). c.args.offset + c.args.len ≤ 4096 * pages_at k.files.pages.journal.tables.files c.args.inode) (sym c.self.view_is) c.requires.within)
           (λ files file at. subst (λ n. Answers page_says (read_refusal file.pages c.args.offset n) (Ok tt)) asked (said.refused files file at))
           (λ files file at. ap (λ bytes. Bytes bytes) (head_is c.args.len out rest long ∙ said.ok files file at ∙ ap (look file.pages c.args.offset) asked))
-          tt (let short = head_short c.args.len out rest long in omega (arith, short, c.requires.few)),
+          (record { good = _; accepts = refl; is = refl }) tt (let short = head_short c.args.len out rest long in omega (arith, short, c.requires.few)),
       head_within c.args.len out rest long,
     )
 
@@ -59,7 +59,7 @@ returns-in-Err g c =
           (λ refused. let same = said.untouched refused in (same.0, ap (λ d. g.D.Lines.state d) same.2)) said.lines said.serves said.object said.runs _ c.requires.some c.requires.few
           (subst (λ (k : HostState). c.args.offset + c.args.len ≤ 4096 * pages_at k.files.pages.journal.tables.files c.args.inode) (sym c.self.view_is) c.requires.within)
           (λ files file at. subst (λ n. Answers {T = Unit {0}} page_says (read_refusal file.pages c.args.offset n) (Err c.in-Err.fault)) asked (said.refused files file at))
-          (λ files file at. c.page_fault.ensures.answer)
+          (λ files file at. c.page_fault.ensures.answer) (record { good = Done; accepts = refl; is = c.page_fault.ensures.answer })
           (subst IsPrintable told (printable_told (page_answer name) (pages_part name).printable (page_says c.in-Err.fault)))
           (omega (arith, short)),
       tt,

@@ -38,5 +38,5 @@ returns g c =
     ] in
     subst (λ (k : HostState). Answered (PoisonFile name c.args.offset) (answer_of c.marked.result) k (record host { files = c.tell_news.new.self }) old new) c.self.view_is
     (poison_told host old new on serves name c.in-Some.inode c.args.offset here c.reserve_event.new.self reserved.others reserved.items reserved.ok
-    c.tell_news.new.self r was c.if-is_ok.is_news c.tell_news.ensures.others c.tell_news.ensures.items c.tell_news.ensures.spare c.is_bad_in-was_bad.ensures news (answer_of c.marked.result) said.panel
+    c.tell_news.new.self r was c.if-is_ok.is_news c.tell_news.ensures.others c.tell_news.ensures.items c.tell_news.ensures.spare c.is_bad_in-was_bad.ensures news reserved.spare c.tell_news.ensures.silent (answer_of c.marked.result) said.panel
     said.refused (on_refused-then place_says r (λ same. ap g.D.Lines.state same) said.untouched) said.ok said.outside said.serves c.marked.ensures)

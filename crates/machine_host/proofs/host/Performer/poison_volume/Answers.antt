@@ -20,4 +20,4 @@ returns g c =
     subst (λ k. Answered (PoisonVolume c.args.offset) (answer_of c.marked.result) k k old new) c.self.view_is
     (volume_line_answered host old new serves on said.panel place_says lose_cell (PoisonVolume c.args.offset) c.args.offset c.poison_volume-call.result (answer_of c.marked.result) refl
     (λ h stands. fate_poison host old h c.args.offset serves stands on) said.refused (if_err_all c.poison_volume-call.result place_refuses)
-    (on_refused-then _ c.poison_volume-call.result (λ same. ap g.D.Lines.state same) said.untouched) said.ok said.outside said.serves c.marked.ensures)
+    (on_refused-then _ c.poison_volume-call.result (λ same. ap g.D.Lines.state same) said.untouched) said.ok said.outside said.serves c.marked.ensures refl)

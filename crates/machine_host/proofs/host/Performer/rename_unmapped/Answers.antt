@@ -28,4 +28,4 @@ returns g c =
     (rename-weak c.args.name.now c.args.to.now)
     (Rename c.args.name.now c.args.to.now) (λ h. record no_reasons { named = first_there (if_missing c.args.name.now h.files) (first_there (if_exists c.args.to.now h.files) (if_mapped c.args.name.now h.mappings)) }) refl _
     (λ h stands. fate_rename h host.files.pages.journal old.medium (sees_files now host old h inside c.requires.on c.requires.serves stands) c.args.name.now c.args.to.now (free_seen c.args.name.now now old h c.requires.on stands c.requires.free))
-    c.journal_answer.ensures.answer
+    c.journal_answer.ensures.answer tt

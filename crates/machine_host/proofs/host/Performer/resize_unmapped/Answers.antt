@@ -30,4 +30,4 @@ returns g c =
     (change-weak c.args.name.now (with_pages c.args.pages) (resize-weak c.args.pages))
     (Resize c.args.name.now c.args.pages) (λ h. record no_reasons { named = first_there (if_missing c.args.name.now h.files) (if_mapped c.args.name.now h.mappings); places = if_many_pages c.args.pages }) refl _
     (λ h stands. fate_resize h host.files.pages.journal old.medium (sees_files now host old h inside c.requires.on c.requires.serves stands) c.args.name.now c.args.pages (free_seen c.args.name.now now old h c.requires.on stands c.requires.free))
-    c.journal_answer.ensures.answer
+    c.journal_answer.ensures.answer tt

@@ -23,4 +23,4 @@ returns g c =
     old.medium (meta_seen now host old h c.self.view_is c.requires.on c.requires.serves stands) (presence_seen now host old h c.self.view_is c.requires.on c.requires.serves stands) c.args.page c.args.count)
     (λ h stands. said.refused)
     (λ h stands. of_pages _ _ _ _ _ (discard c.args.page c.args.count) h.volume said.ok (volume_pages now host old h c.self.view_is c.requires.on c.requires.serves stands))
-    c.volume_answer.ensures.answer
+    c.volume_answer.ensures.answer tt

@@ -1,6 +1,6 @@
-use Rattle.std.proofs.Common.{◌≡◌, ◌≤◌, Ok, Err, length, take, drop, sym, ap, subst, ◌∙◌, arith}
+use Rattle.std.proofs.Common.{◌≡◌, ◌≤◌, Ok, Err, length, take, drop, sym, ap, subst, ◌∙◌, arith, refl}
 use Rattle.reply_text.specs.Answer.{IsPrintable}
-use Rattle.reply_text.specs.Answer.Answer.{Bytes}
+use Rattle.reply_text.specs.Answer.Answer.{Bytes, Done}
 use Rattle.reply_text.specs.Room.{most_of}
 use Rattle.nvm_model.specs.Page.{look}
 use Rattle.pm_volume.specs.Refusals.{load_refusal, volume_says}
@@ -30,7 +30,7 @@ returns-in-Ok g c =
           c.requires.on c.requires.serves (omega (arith, asked)) tt said.lines said.serves said.object said.runs _ c.requires.some c.requires.within c.requires.few
           (λ pages holds. subst (λ n. Answers volume_says (load_refusal host.volume pages c.args.offset n) (Ok tt)) asked (said.refused pages holds))
           (λ h holds. ap (λ bytes. Bytes bytes) (head_is c.args.len out rest long ∙ said.ok h.volume holds ∙ ap (look h.volume c.args.offset) asked))
-          tt (head_short c.args.len out rest long),
+          (record { good = _; accepts = refl; is = refl }) tt (head_short c.args.len out rest long),
       head_within c.args.len out rest long,
     )
 
@@ -48,7 +48,7 @@ returns-in-Err g c =
           c.requires.on c.requires.serves (omega (arith, asked))
           (λ refused. let same = said.untouched refused in (same.0, ap (λ d. g.D.Lines.state d) same.1)) said.lines said.serves said.object said.runs _ c.requires.some c.requires.within c.requires.few
           (λ pages holds. subst (λ n. Answers {T = Unit {0}} volume_says (load_refusal host.volume pages c.args.offset n) (Err c.in-Err.fault)) asked (said.refused pages holds))
-          (λ h holds. c.volume_fault.ensures.answer)
+          (λ h holds. c.volume_fault.ensures.answer) (record { good = Done; accepts = refl; is = c.volume_fault.ensures.answer })
           (subst IsPrintable told (printable_told volume_answer volume_part.printable (volume_says c.in-Err.fault)))
           (let short = subst (λ a. most_of a ≤ 72) told (short_told volume_answer volume_part.short (volume_says c.in-Err.fault)) in omega (arith, short)),
       tt,

@@ -31,4 +31,4 @@ returns g c =
     subst (λ geo. OnOk c.physical_sync-call.result (VolumeHolds c.physical_sync-call.new.self new.medium (persist_at (physical_offset geo c.args.address c.args.len) c.args.len h.volume)))
     (volume_sizes now host old h c.self.view_is c.requires.on c.requires.serves stands)
     (physical_ok v _ c.args.address c.args.len old.medium new.medium c.physical_sync-call.result said.refused h.volume (volume_pages now host old h c.self.view_is c.requires.on c.requires.serves stands) said.ok))
-    c.volume_answer.ensures.answer
+    c.volume_answer.ensures.answer tt

@@ -27,4 +27,4 @@ returns g c =
     old.medium (meta_seen now host old h c.self.view_is c.requires.on c.requires.serves stands) (presence_seen now host old h c.self.view_is c.requires.on c.requires.serves stands) c.args.offset c.args.bytes.now)
     (λ h stands. said.refused h.volume (volume_pages now host old h c.self.view_is c.requires.on c.requires.serves stands))
     (λ h stands. of_pages _ _ _ _ _ (λ pages. put c.args.offset c.args.bytes.now (fill c.args.offset len pages)) h.volume said.ok (volume_pages now host old h c.self.view_is c.requires.on c.requires.serves stands))
-    c.volume_answer.ensures.answer
+    c.volume_answer.ensures.answer tt

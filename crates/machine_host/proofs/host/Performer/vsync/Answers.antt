@@ -26,4 +26,4 @@ returns g c =
     (λ h stands. fate_vsync h v (sym stands.mode ∙ c.requires.on) (volume_sizes now host old h c.self.view_is c.requires.on c.requires.serves stands) c.args.offset c.args.len)
     (λ h stands. said.refused h.volume (volume_pages now host old h c.self.view_is c.requires.on c.requires.serves stands))
     (λ h stands. of_pages _ _ _ _ _ (persist c.args.offset c.args.len) h.volume said.ok (volume_pages now host old h c.self.view_is c.requires.on c.requires.serves stands))
-    c.volume_answer.ensures.answer
+    c.volume_answer.ensures.answer tt

@@ -46,6 +46,6 @@ returns g c =
     let here : inode_of name host.files.pages.journal.tables.files ≡ Some c.in-Some.inode = ap (λ (j : JournalState). inode_of name j.tables.files) (sym c.journal.ensures) ∙ sym c.in-Some.ensures.value in
     subst (λ (k : HostState). Responds (WeakenFile name c.args.offset) c.weakened.result k (record host { files = f }) old new) c.self.view_is
     (weaken_responds (WeakenFile name c.args.offset) r c.weakened.result host (record host { files = f }) old new c.weakened.ensures
-    (λ answer told is. weaken_told host old new on serves name c.in-Some.inode c.args.offset here f reserved.others reserved.items reserved.ok r answer told said.panel said.refused
+    (λ answer told is. weaken_told host old new on serves name c.in-Some.inode c.args.offset here f reserved.others reserved.items reserved.ok reserved.spare r answer told said.panel said.refused
     (on_refused-then weaken_says r (λ same. ap g.D.Lines.state same) said.untouched) said.ok said.outside said.serves is)
     (λ starved. weaken_starved host old new on serves name c.in-Some.inode c.args.offset here f reserved.others reserved.items reserved.ok reserved.spare (said.memory starved) said.panel))

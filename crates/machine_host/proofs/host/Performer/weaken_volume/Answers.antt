@@ -23,7 +23,7 @@ returns g c =
     (λ answer told is.
     subst (λ k. Answered (WeakenVolume c.args.offset) answer k k old new) c.self.view_is
     (volume_line_answered host old new serves on said.panel weaken_says weaken_cell (WeakenVolume c.args.offset) c.args.offset r answer refl
-    (λ h stands. fate_weaken host old h c.args.offset serves stands on) said.refused told (on_refused-then weaken_says r (λ same. ap g.D.Lines.state same) said.untouched) said.ok said.outside said.serves is))
+    (λ h stands. fate_weaken host old h c.args.offset serves stands on) said.refused told (on_refused-then weaken_says r (λ same. ap g.D.Lines.state same) said.untouched) said.ok said.outside said.serves is refl))
     (λ starved.
     let written = said.memory starved in (
       (record { events = c.args.self.now.files.events; same = refl; items = refl; spare = omega arith }, written, said.panel),
