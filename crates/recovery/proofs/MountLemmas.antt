@@ -1,5 +1,5 @@
 -- What a mount gives, once nothing was found before a log is replayed.
-use Rattle.std.proofs.Common.{◌≡◌, ℕ, List, None, Result, Ok, Err, IfOk, IsTrue, map, option_map, sym, ◌∙◌, ap, ap₂, subst}
+use Rattle.std.proofs.Common.{◌≡◌, ℕ, List, None, Result, Ok, Err, IfOk, IsTrue, OnOk, map, option_map, sym, ◌∙◌, ap, ap₂, subst}
 use Rattle.nvm_base.proofs.FirstLemmas.{not_mapped}
 use Rattle.line_device.specs.Medium.{Medium, WritesBack, last_image}
 use Rattle.line_words.proofs.FrameLemmas.{last_image-write_back}
@@ -55,6 +55,14 @@ module _ (old now : Medium) (geo : Geometry) (is : geo ≡ geometry_told old) (x
         subst (λ g. KeepsReads g old new) is
         (keeps_reads-trans geo old now new order.valid (keeps_reads-write_back geo old now x)
         (keeps_reads-reached geo (IsOfLogs geo) (logs_in_metadata geo order.valid) now new order.valid left.outside left.blocks (area_whole geo order.valid now order.good)))
+
+    -- the blocks' log is at rest
+    pub mount_rest : {T E : Type 0} (r : Result T E) → IsAtRest (block_area geo) new (replayed (block_area geo) (last_image now))
+        → OnOk r (IsAtRest (block_area (geometry_told old)) new (replayed (block_area (geometry_told old)) (last_image old)))
+    mount_rest (Err e) rest = tt
+    mount_rest (Ok made) rest =
+        subst (λ (word : ℕ → ℕ). IsAtRest (block_area (geometry_told old)) new (replayed (block_area (geometry_told old)) word)) (last_image-write_back old now x)
+        (subst (λ g. IsAtRest (block_area g) new (replayed (block_area g) (last_image now))) is rest)
 
   -- the tables that were read
   module _ (right : inspection_finding old ≡ None) (tables : Tables) (are : AreTables geo (last_image now) tables) where

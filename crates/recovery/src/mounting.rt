@@ -1,12 +1,13 @@
 // Mounting: what is to be found is found before anything is stored, as far as it can be.
-ghost use Rattle.std.specs.Prelude.{◌≡◌, ◌≢◌, ◌≤◌, List, None, IfOk, IsTrue};
+ghost use Rattle.std.specs.Prelude.{◌≡◌, ◌≢◌, ◌≤◌, List, None, IfOk, IsTrue, OnOk};
 ghost use Rattle.line_device.specs.Medium.{WritesBack, last_image};
 ghost use Rattle.line_device.specs.Panel.{Runs};
 ghost use Rattle.line_words.specs.Words.{WritesBackOutside};
 ghost use Rattle.nvm_model.specs.Events.{restart_events, weak_file_lines};
 ghost use Rattle.nvm_model.specs.Storage.{File};
 ghost use Rattle.word_log.specs.Area.{gate_place};
-ghost use Rattle.word_log.specs.Rest.{EachImage, IsReached};
+ghost use Rattle.word_log.specs.Replay.{replayed};
+ghost use Rattle.word_log.specs.Rest.{EachImage, IsAtRest, IsReached};
 ghost use Rattle.block_device.specs.Area.{block_area};
 ghost use Rattle.block_device.specs.Images.{KeepsReads};
 ghost use Rattle.block_device.specs.Object.{BlocksServe, blocks_of};
@@ -59,6 +60,8 @@ pub fn mount<L: Lines>(alloc: Global, dev: &mut L) -> Result<Mounted, MountFault
         → WritesBack (L.state dev.old).medium (L.state dev.new).medium }
     ensures outside { WritesBackOutside (IsOfLogs (geometry_told (L.state dev.old).medium))
         (L.state dev.old).medium (L.state dev.new).medium }
+    ensures rest { OnOk result (IsAtRest (block_area (geometry_told (L.state dev.old).medium)) (L.state dev.new).medium
+        (replayed (block_area (geometry_told (L.state dev.old).medium)) (last_image (L.state dev.old).medium))) }
     ensures serves { HasDurableBlocks (L.state dev.old).medium
         → IfOk result (λ mounted. BlocksServe mounted.blocks (L.state dev.new).medium) }
     ensures volume { IfOk result (λ mounted. VolumeServes mounted.volume (L.state dev.new).medium) }

@@ -5,7 +5,7 @@ use Rattle.recovery.specs.declared.Mounted.{Mounted}
 use Rattle.recovery.specs.Findings.{geometry_told, first_finding}
 use Rattle.recovery.proofs.FindingLemmas.{finds_before, finds_on, finds_stopped, handed, inspected_parts}
 use Rattle.recovery.proofs.LeaveLemmas.{leaves-write_back}
-use Rattle.recovery.proofs.MountLemmas.{logs_same, mount_files, mount_finds, mount_journal, mount_left, mount_ok, mount_reads, mount_serves, mount_volume}
+use Rattle.recovery.proofs.MountLemmas.{logs_same, mount_files, mount_finds, mount_journal, mount_left, mount_ok, mount_reads, mount_rest, mount_serves, mount_volume}
 use Rattle.recovery.proofs.mounting.mount.Goals as goal
 
 pub returns-in_err-geo-clause-finds : goal.returns-in_err-geo-clause-finds
@@ -143,6 +143,14 @@ returns-clause-finds g c =
     let now = (g.L.Lines.state c.inspect.new.dev).medium in
     let geo = c.in_ok-geo.ensures in
     mount_finds old now c.in_ok-geo.geo geo.geo geo.lines geo.finds c.in_ok-tables.tables c.in_ok-tables.ensures.tables c.judge_tables.result c.judge_tables.ensures.finds
+
+pub returns-clause-rest : goal.returns-clause-rest
+returns-clause-rest g c =
+    let old = (g.L.Lines.state c.args.dev.now).medium in
+    let now = (g.L.Lines.state c.inspect.new.dev).medium in
+    let new = (g.L.Lines.state c.replay_logs.new.dev).medium in
+    let geo = c.in_ok-geo.ensures in
+    mount_rest old now c.in_ok-geo.geo geo.geo geo.lines new geo.order c.in_ok-tables.ensures.left c.judge_tables.result c.in_ok-tables.ensures.blocks_rest
 
 pub returns-clause-serves : goal.returns-clause-serves
 returns-clause-serves g c =
