@@ -4,6 +4,7 @@ ghost use Rattle.line_device.specs.Word.{word_at};
 ghost use Rattle.append_log.specs.Lines.{record_of};
 
 use arrayvec::ArrayVec;
+use line_device::{word_bytes, word_in};
 
 /// Most bytes of a record.
 pub const MOST_BYTES: usize = 48;
@@ -45,7 +46,7 @@ pub(crate) fn count_line(count: u64) -> [u8; 64]
     ensures length { length result ≡ 64 }
 {
     let mut line = [0; 64];
-    line[..8].copy_from_slice(&count.to_le_bytes());
+    line[..8].copy_from_slice(&word_bytes(count));
     line
 }
 
@@ -54,7 +55,5 @@ pub(crate) fn count_in(line: &[u8]) -> u64
     requires { length line.now ≡ 64 }
     ensures { result ≡ word_at line.now 0 }
 {
-    u64::from_le_bytes([
-        line[0], line[1], line[2], line[3], line[4], line[5], line[6], line[7],
-    ])
+    word_in(line, 0)
 }

@@ -1,5 +1,6 @@
 pub mod ReadLemmas
 pub mod BufferLemmas
+pub mod StoppedReadLemmas
 pub mod PlaceLemmas
 pub mod ServesLemmas
 pub mod ImageLemmas

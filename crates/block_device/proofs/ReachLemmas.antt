@@ -28,7 +28,7 @@ use Rattle.block_device.specs.Reading.{map_read, states_read, blocks_read}
 use Rattle.block_device.specs.Images.{IsBlockImage, IsSameLog, ReadsAs, EachReads, KeepsReads}
 use Rattle.block_device.specs.Mounting.{wrong_place}
 use Rattle.block_device.proofs.ReadLemmas.{IsNamed, list_from-cong, map_read-same, durable-outside, durable-write_back}
-use Rattle.block_device.proofs.PlaceLemmas.{area_in_metadata, block_is_home, data_behind_metadata, image_on_area, named_apart, named_is_data}
+use Rattle.block_device.proofs.PlaceLemmas.{area_in_metadata, block_is_home, data_behind_metadata, image_on_area, named_is_data}
 use Rattle.block_device.proofs.AreaLemmas.{area_shaped}
 use Rattle.block_device.proofs.FrameLemmas.{length-states_read}
 use Rattle.block_device.proofs.ImageLemmas.{reads-then}

@@ -9,6 +9,7 @@ ghost use Rattle.word_tables.specs.Layout.{total_lines};
 ghost use Rattle.line_words.specs.Words.{WritesBackOutside};
 ghost use Rattle.line_words.specs.Told.{outcome_by};
 ghost use Rattle.word_log.specs.Area.{IsOf, IsWhole, gate_place};
+ghost use Rattle.word_log.specs.Mount.{LeavesWrong};
 ghost use Rattle.word_log.specs.Rest.{EachImage, IsReached};
 ghost use Rattle.block_map.specs.States.{word_of};
 ghost use Rattle.block_device.specs.Area.{block_area};
@@ -37,6 +38,7 @@ impl Blocks {
             ≡ blocks_read geo (L.state dev.old).medium.is_bad (last_image (L.state dev.old).medium))) }
         ensures finds { FindsBlocks geo (L.state dev.old).medium result }
         ensures images { EachImage (block_area geo) (L.state dev.new).medium (IsReached (block_area geo) (L.state dev.old).medium) }
+        ensures refused { LeavesWrong (block_area geo) (L.state dev.old).medium (L.state dev.new).medium }
         ensures reads { IsWhole (block_area geo) (L.state dev.old).medium
             → KeepsReads geo (L.state dev.old).medium (L.state dev.new).medium }
         ensures closed { last_image (L.state dev.old).medium (gate_place (block_area geo)) ≡ 0

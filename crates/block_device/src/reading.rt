@@ -1,9 +1,10 @@
 // Reading blocks.
-ghost use Rattle.std.specs.Prelude.{◌≡◌, ◌+◌, ◌*◌, ◌/◌, ◌%◌, ◌<◌, ◌≤◌, ◌++◌, ℕ, None, EachIndex, IsTrue, OnOk, drop, length, option_map, slice_index, take};
+ghost use Rattle.std.specs.Prelude.{◌≡◌, ◌+◌, ◌*◌, ◌/◌, ◌%◌, ◌<◌, ◌≤◌, ◌++◌, ℕ, None, EachIndex, IsTrue, OnErr, OnOk, drop, length, option_map, slice_index, take};
 ghost use Rattle.line_device.specs.Medium.{IsHealthy, WritesBack, last_image};
 ghost use Rattle.line_device.specs.Panel.{Runs};
 ghost use Rattle.line_words.specs.Ending.{ended};
 ghost use Rattle.nvm_model.specs.Blocks.{first_obstacle, look_blocks, nth, obstacle_in};
+ghost use Rattle.nvm_model.specs.Numbered.{AreMixed};
 ghost use Rattle.block_device.specs.Reading.{bytes_read};
 ghost use Rattle.block_device.specs.Object.{BlocksServe, blocks_of};
 ghost use Rattle.block_device.specs.Refusals.{Answers, Checks, Obstructs, OnRefused, block_outcome, read_refusal};
@@ -35,6 +36,8 @@ impl Blocks {
         ensures refused { Answers (read_refusal self.old (L.state dev.old).medium block (length out.old)) result }
         ensures untouched { OnRefused result ((out.new ≡ out.old) × (dev.new ≡ dev.old)) }
         ensures ok { OnOk result (out.new ≡ look_blocks (blocks_of self.old (L.state dev.old).medium) block (length out.old / 512)) }
+        ensures err { OnErr result (AreMixed ℕ out.old
+            (look_blocks (blocks_of self.old (L.state dev.old).medium) block (length out.old / 512)) out.new) }
         ensures lines { WritesBack (L.state dev.old).medium (L.state dev.new).medium }
         ensures serves { BlocksServe self.new (L.state dev.new).medium }
         ensures object { self.new ≡ record self.old { settled = is_done (block_outcome result) } }
@@ -93,6 +96,8 @@ impl Blocks {
         requires within { block + length out.old / 512 ≤ self.now.geo.blocks }
         requires readable { first_obstacle (blocks_of self.now (L.state dev.old).medium) block (length out.old / 512) ≡ None }
         ensures ok { OnOk result (out.new ≡ look_blocks (blocks_of self.now (L.state dev.old).medium) block (length out.old / 512)) }
+        ensures err { OnErr result (AreMixed ℕ out.old
+            (look_blocks (blocks_of self.now (L.state dev.old).medium) block (length out.old / 512)) out.new) }
         ensures lines { WritesBack (L.state dev.old).medium (L.state dev.new).medium }
         ensures runs { Runs (length out.old / 64) 0 (ended result) (L.state dev.old).panel (L.state dev.new).panel }
     {
@@ -118,6 +123,8 @@ impl Blocks {
         requires readable { obstacle_in block (nth (blocks_of self.now (L.state dev.old).medium) block) ≡ None }
         ensures ok { OnOk result (out.new ≡ take at out.old
             ++ look_blocks (blocks_of self.now (L.state dev.old).medium) block 1 ++ drop (at + 512) out.old) }
+        ensures err { OnErr result (AreMixed ℕ out.old (take at out.old
+            ++ look_blocks (blocks_of self.now (L.state dev.old).medium) block 1 ++ drop (at + 512) out.old) out.new) }
         ensures lines { WritesBack (L.state dev.old).medium (L.state dev.new).medium }
         ensures runs { Runs 8 0 (ended result) (L.state dev.old).panel (L.state dev.new).panel }
     {
@@ -143,6 +150,7 @@ fn load_unit<L: Lines>(dev: &mut L, first: u64, out: &mut [u8]) -> Result<(), In
     requires on { IsTrue (L.state dev.old).panel.power }
     requires length { length out.old ≡ 512 }
     ensures ok { OnOk result (out.new ≡ bytes_read (last_image (L.state dev.old).medium) (64 * first) 512) }
+    ensures err { OnErr result (AreMixed ℕ out.old (bytes_read (last_image (L.state dev.old).medium) (64 * first) 512) out.new) }
     ensures lines { WritesBack (L.state dev.old).medium (L.state dev.new).medium }
     ensures runs { Runs 8 0 (ended result) (L.state dev.old).panel (L.state dev.new).panel }
 {
@@ -159,6 +167,7 @@ fn load_at<L: Lines>(dev: &mut L, line: u64, out: &mut [u8], at: usize) -> Resul
     requires within { at + 64 ≤ length out.old }
     ensures ok { OnOk result (out.new ≡ take at out.old
         ++ bytes_read (last_image (L.state dev.old).medium) (64 * line) 64 ++ drop (at + 64) out.old) }
+    ensures err { OnErr result (out.new ≡ out.old) }
     ensures lines { WritesBack (L.state dev.old).medium (L.state dev.new).medium }
     ensures runs { Runs 1 0 (ended result) (L.state dev.old).panel (L.state dev.new).panel }
 {

@@ -8,6 +8,7 @@ ghost use Rattle.nvm_model.specs.Page.{touches_page};
 ghost use Rattle.nvm_model.specs.Touched.{touches_any};
 ghost use Rattle.file_actions.specs.Rewriting.{byte_laid, durable_line, touches_any_page};
 
+use line_device::word_bytes;
 use line_histories::{HeldLine, Stored};
 use nvm_base::{LINE, PAGE, Span};
 use sights::{byte_in, is_among, touches};
@@ -47,7 +48,7 @@ fn last_byte(line: &HeldLine, i: u64) -> u8
         return 0;
     }
     let (durable, log) = line.values(i / 8);
-    newest(durable, log, i / 8).to_le_bytes()[(i % 8) as usize]
+    word_bytes(newest(durable, log, i / 8))[(i % 8) as usize]
 }
 
 fn newest(durable: u64, log: &[Stored], w: u64) -> u64

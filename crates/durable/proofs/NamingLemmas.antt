@@ -16,7 +16,7 @@ use Rattle.nvm_model.specs.Page.{Page, cell_of, first_bad_line, is_bad_cell}
 use Rattle.nvm_model.specs.Storage.{Block, Mapping}
 use Rattle.nvm_model.specs.Storage.Block.{Absent, Scarred, Data}
 use Rattle.page_lines.proofs.LoopLemmas.{touches-within, within-touches}
-use Rattle.pm_volume.proofs.BadLemmas.{none_touched}
+use Rattle.page_lines.proofs.SearchLemmas.{none_touched}
 use Rattle.block_device.specs.Refusals.Refusal.{Unreadable}
 use Rattle.pm_volume.specs.Refusals.{poisoned_at}
 use Rattle.file_pages.specs.Refusals.{poisoned_at as poisoned_in_file}

@@ -20,7 +20,7 @@ use Rattle.nvm_model.proofs.FillLemmas.{presence_of-fill}
 use Rattle.std.proofs.lemmas.List.{length-map}
 use Rattle.word_tables.specs.declared.geometry.Geometry.{Geometry}
 use Rattle.nvm_model.proofs.MediaLemmas.{cell_of-changed}
-use Rattle.pm_volume.proofs.BadLemmas.{none_touched}
+use Rattle.page_lines.proofs.SearchLemmas.{none_touched}
 use Rattle.pm_volume.specs.Refusals.{VolumeRefusal, extent_refusal, physical_offset, poisoned_at, refused_if}
 use Rattle.pm_volume.specs.Refusals.VolumeRefusal.{Range as Past, Length as Empty}
 use Rattle.nvm_model.proofs.PutLemmas.{byte_in-put}

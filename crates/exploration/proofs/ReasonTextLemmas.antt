@@ -5,7 +5,7 @@ use Rattle.std.specs.Str.{bytes_eq}
 use Rattle.std.proofs.lemmas.Fmt.{decimal_by_steps, decimal_injective}
 use Rattle.std.proofs.lemmas.List.{append_cancel_left}
 use Rattle.std.proofs.lemmas.List.Folds.{list_all-append}
-use Rattle.questions.proofs.TextLemmas.{split-alone, split-before}
+use Rattle.nvm_base.proofs.SplitLemmas.{split-alone, split-before}
 use Rattle.exploration.specs.declared.reason.Reason.{Reason}
 use Rattle.exploration.specs.declared.reason.Reason.TheVariants as why
 use Rattle.exploration.specs.Telling.{IsInRange, numbered_text, reason_text, replies_text}

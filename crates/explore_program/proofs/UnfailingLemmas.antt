@@ -1,12 +1,11 @@
 -- A call that failed with a right image, where nothing that it stands on did: it wanted memory, or its script is not taken or too long.
-use Rattle.std.proofs.Common.{◌≡◌, ◌≤◌, ◌<◌, ◌⊎◌, ℕ, List, length, Option, Some, None, inl, inr, refl, sym, subst, ◌∙◌, arith}
+use Rattle.std.proofs.Common.{◌≡◌, ◌≤◌, ◌⊎◌, ℕ, List, Option, None, inl, inr, refl, sym, subst, ◌∙◌, arith}
 use Rattle.std.specs.Prelude.{IsSomeAnd}
 use Rattle.nvm_base.specs.Counts.{Rose}
 use Rattle.host_io.specs.Images.{Held}
-use Rattle.image_file.specs.WrongField.{first_wrong_offset}
 use Rattle.word_tables.specs.declared.geometry.Geometry.{Geometry}
-use Rattle.program_base.specs.Ending.{most_bytes, status}
-use Rattle.program_base.specs.Opening.{DeviceFailed, IsNoImage, StaysClosed, opened}
+use Rattle.program_base.specs.Ending.{status}
+use Rattle.program_base.specs.Opening.{DeviceFailed, IsNoImage, IsNoImageFrom, StaysClosed, opened}
 use Rattle.program_base.specs.Unfailing.{HoldsRight, NothingFailed}
 use Rattle.program_base.specs.World.{World}
 use Rattle.program_base.specs.declared.ending.Ending.{Ending}
@@ -17,16 +16,13 @@ use Rattle.explore_program.specs.declared.stop.Stop.{Stop}
 use Rattle.explore_program.specs.declared.stop.Stop.TheVariants as stops
 
 -- what is held right is an image
-abbrev IsNoImageFrom : ℕ → List ℕ → Type 0
-IsNoImageFrom offset bytes = (first_wrong_offset bytes ≡ Some offset) ⊎ ((most_bytes < length bytes) × (offset ≡ most_bytes))
-
 is_image : (name : List ℕ) (held : Option Held) (offset : ℕ) → HoldsRight name held → IsNoImage name held offset → ⊥
 is_image name held offset right none =
     let at : IsSomeAnd (right.look name) (IsNoImageFrom offset) = subst (λ (held : Option Held). IsNoImage name held offset) right.told none in
     by_bytes (subst (λ bytes. IsSomeAnd bytes (IsNoImageFrom offset)) right.there at)
   where
     by_bytes : IsNoImageFrom offset right.bytes → ⊥
-    by_bytes (inl wrong) = cc (sym right.image ∙ wrong)
+    by_bytes (inl wrong) = let at = wrong.1 in cc (sym right.image ∙ at)
     by_bytes (inr long) = omega (arith, right.few, long.0)
 
 is_there : (name : List ℕ) (held : Option Held) → HoldsRight name held → IsSomeAnd held (λ look. look name ≡ None) → ⊥
@@ -39,7 +35,7 @@ module _ (name : List ℕ) (old between : World) (right : HoldsRight name old.he
   unopened endings.Memory cause = refl
   unopened endings.Read (inl rose) = absurd (none.fetches rose)
   unopened endings.Read (inr missing) = absurd (is_there name old.held right missing)
-  unopened endings.Device cause = absurd (device cause)
+  unopened endings.Device (lines, there, failed) = absurd (device failed)
   unopened (endings.Image offset) cause = absurd (is_image name old.held offset right cause)
   unopened (endings.Layout place) (lines, there, found) = cc (sym (right.right lines there) ∙ found)
   unopened (endings.Meta line) (lines, there, found) = cc (sym (right.right lines there) ∙ found)

@@ -4,7 +4,9 @@ ghost use Rattle.std.specs.Result.{is_ok};
 ghost use Rattle.line_device.specs.Panel.Outcome.{went};
 ghost use Rattle.line_device.specs.Panel.{Runs};
 ghost use Rattle.line_words.specs.Ending.{ended};
+ghost use Rattle.line_words.specs.Words.{WritesBackOutside};
 ghost use Rattle.line_words.specs.Told.{Answers, Checks, OnRefused, OnWorked, is_done, outcome_by};
+ghost use Rattle.word_log.specs.Area.{IsOf};
 ghost use Rattle.word_log.specs.Changes.{commit_calls, commit_persists};
 ghost use Rattle.word_tables.specs.Bounds.{IsValid};
 ghost use Rattle.word_tables.specs.Layout.{meta_lines};
@@ -15,9 +17,9 @@ ghost use Rattle.nvm_model.specs.Listing.{change_file, file_name};
 ghost use Rattle.nvm_model.specs.Page.{discard};
 ghost use Rattle.nvm_model.specs.Storage.{File};
 ghost use Rattle.page_lines.specs.Turns.{WritesBackOthers};
-ghost use Rattle.file_journal.specs.Area.{IsOfFiles};
-ghost use Rattle.file_journal.specs.Changes.{holes};
-ghost use Rattle.file_journal.specs.Object.{JournalServes};
+ghost use Rattle.file_journal.specs.Area.{IsOfFiles, file_area};
+ghost use Rattle.file_journal.specs.Changes.{holes, switched};
+ghost use Rattle.file_journal.specs.Object.{JournalServes, KeepsUnits};
 ghost use Rattle.file_journal.specs.Standing.{EachReadsFiles, FilesStand};
 ghost use Rattle.file_journal.specs.Tables.{AreTables, known_units};
 ghost use Rattle.file_pages.specs.Object.{IsFileAt, KeepsMarks, PagesServe, is_settled};
@@ -57,14 +59,17 @@ pub fn discard<L: Lines>(
         → IsFileAt files.old.journal (L.state dev.old).medium inode listed file
         → EachReadsFiles files.old.journal.geo (L.state dev.new).medium
         (OneFileLeft file.name (λ old left. (left ≡ old) ⊎ (left ≡ discard pages.start pages.len old)) listed)) }
+    ensures beside { WritesBackOutside (IsOf (file_area files.old.journal.geo)) (L.state dev.old).medium (L.state dev.new).medium }
     ensures outside { WritesBackOthers (IsOfFiles files.old.journal.geo) (L.state dev.old).medium (L.state dev.new).medium }
     ensures metadata { KeepsMarks files.old.journal.geo (L.state dev.old).medium (L.state dev.new).medium }
     ensures serves { IsTrue (is_settled files.new) → PagesServe files.new (L.state dev.new).medium }
+    ensures switched { OnOk result (files.new.journal.tables ≡ switched inode (holes pages.start pages.len) files.old.journal.tables) }
     ensures tables { OnOk result (AreTables files.new.journal.geo.fpages files.new.journal.tables) }
     ensures files { OnOk result (files.new.journal.tables.files ≡ files.old.journal.tables.files) }
     ensures object { (files.new.journal.geo ≡ files.old.journal.geo) × (is_settled files.new ≡ is_done (outcome_by action_says result)) }
     ensures held { IsTrue (is_settled files.new)
         → known_units files.new.journal.tables.pages files.new.journal.free ≡ known_units files.old.journal.tables.pages files.old.journal.free }
+    ensures units { OnOk result (KeepsUnits 0 files.old.journal files.new.journal) }
     ensures runs { Runs (commit_calls (5 + pages.len)) (commit_persists (5 + pages.len)) (outcome_by action_says result) (L.state dev.old).panel (L.state dev.new).panel }
 {
     check_discard(files.journal(), dev, inode, pages)?;
@@ -93,14 +98,15 @@ fn make_holes<L: Lines>(
     ensures images { (listed : List File) (file : File) → IsFileAt files.old.journal (L.state dev.old).medium inode listed file
         → EachReadsFiles files.old.journal.geo (L.state dev.new).medium
         (OneFileLeft file.name (λ old left. (left ≡ old) ⊎ (left ≡ discard pages.start pages.len old)) listed) }
+    ensures beside { WritesBackOutside (IsOf (file_area files.old.journal.geo)) (L.state dev.old).medium (L.state dev.new).medium }
     ensures outside { WritesBackOthers (IsOfFiles files.old.journal.geo) (L.state dev.old).medium (L.state dev.new).medium }
     ensures metadata { KeepsMarks files.old.journal.geo (L.state dev.old).medium (L.state dev.new).medium }
     ensures serves { OnOk result (PagesServe files.new (L.state dev.new).medium) }
+    ensures switched { OnOk result (files.new.journal.tables ≡ switched inode (holes pages.start pages.len) files.old.journal.tables) }
     ensures tables { OnOk result (AreTables files.new.journal.geo.fpages files.new.journal.tables) }
     ensures files { OnOk result (files.new.journal.tables.files ≡ files.old.journal.tables.files) }
     ensures object { (files.new.journal.geo ≡ files.old.journal.geo) × (is_settled files.new ≡ is_ok result) }
-    ensures known { OnOk result (known_units files.new.journal.tables.pages files.new.journal.free
-        ≡ known_units files.old.journal.tables.pages files.old.journal.free) }
+    ensures units { OnOk result (KeepsUnits 0 files.old.journal files.new.journal) }
     ensures runs { Runs (commit_calls (5 + pages.len)) (commit_persists (5 + pages.len)) (ended result) (L.state dev.old).panel (L.state dev.new).panel }
 {
     let _size = files.journal().pages(inode);

@@ -12,7 +12,7 @@ ghost use Rattle.page_lines.specs.Turns.{WritesBackOthers};
 ghost use Rattle.file_journal.specs.Area.{IsOfFiles};
 ghost use Rattle.file_journal.specs.Standing.{EachReadsFiles, FilesStand};
 ghost use Rattle.file_pages.specs.Costs.{lines_there};
-ghost use Rattle.file_pages.specs.Object.{IsFileAt, KeepsMarks, PagesServe, is_settled};
+ghost use Rattle.file_pages.specs.Object.{IsFileAt, IsFileLine, KeepsMarks, PagesServe, is_settled};
 ghost use Rattle.file_actions.specs.Refusals.{action_says, all_bytes, sync_refusal};
 
 use crate::ActionFault;
@@ -35,6 +35,7 @@ pub fn sync<L: Lines>(dev: &mut L, files: &mut FilePages, inode: u64) -> Result<
     ensures images { OnWorked action_says result ((listed : List File) (file : File)
         → IsFileAt files.old.journal (L.state dev.old).medium inode listed file
         → EachReadsFiles files.old.journal.geo (L.state dev.new).medium (OneFileLeft file.name (MaySyncAll all_bytes) listed)) }
+    ensures beside { WritesBackOthers (IsFileLine files.old.journal inode) (L.state dev.old).medium (L.state dev.new).medium }
     ensures outside { WritesBackOthers (IsOfFiles files.old.journal.geo) (L.state dev.old).medium (L.state dev.new).medium }
     ensures metadata { KeepsMarks files.old.journal.geo (L.state dev.old).medium (L.state dev.new).medium }
     ensures serves { PagesServe files.new (L.state dev.new).medium }

@@ -48,6 +48,12 @@ taken_now free u is_free =
     let within = slice_get_within free u true is_free in
     slice_get-get_or (set free u false) u false (omega (arith, within, length-set free u false)) ∙ ap (λ (b : Bool). Some b) (get_or-set_same free u false false within)
 
+-- and given back it is as before
+pub given_back : (free : List Bool) (u : ℕ) → IsFree free u → set (set free u false) u true ≡ free
+given_back [] u is_free = cc
+given_back (b ∷ bs) zero is_free = ap (λ (x : Bool). x ∷ bs) (sym (same_Some b true is_free))
+given_back (b ∷ bs) (suc u) is_free = ap (λ (xs : List Bool). b ∷ xs) (given_back bs u is_free)
+
 pub not_both : (free : List Bool) (u : ℕ) → IsFree free u → IsTaken free u → ⊥
 not_both free u is_free taken = absurd (false≢true (same_Some false true (sym taken ∙ is_free)))
 

@@ -40,6 +40,10 @@ unit_place geo units n = option_map (λ unit. file_line geo unit + n % 64) (slic
 abbrev pub file_place : JournalState → ℕ → ℕ → Option ℕ
 file_place s inode = unit_place s.geo (units_of s.tables inode)
 
+-- a line of the device that a line of the file is at
+abbrev pub IsFileLine : JournalState → ℕ → ℕ → Type 0
+IsFileLine s inode line = (n : ℕ) × (file_place s inode n ≡ Some line)
+
 -- lines of pages that are on some units
 pub record PlacesState : Type 0 where
   pub geo : Geometry

@@ -1,8 +1,9 @@
 // Units for holes: taken, their lines made zeros, and named by the pages.
 ghost use Rattle.std.specs.Prelude.{◌≡◌, ◌+◌, ◌*◌, ◌<◌, ◌≤◌, ℕ, Some, None, IsTrue, MatchOption, OnOk, length, false};
 ghost use Rattle.std.specs.Result.{is_ok};
-ghost use Rattle.free_pool.specs.Units.{free_count};
+ghost use Rattle.free_pool.specs.Units.{IsTaken, free_count};
 ghost use Rattle.inode_table.specs.Slots.{pages_at};
+ghost use Rattle.line_device.specs.Medium.{Medium};
 ghost use Rattle.line_device.specs.Panel.{Runs};
 ghost use Rattle.line_words.specs.Ending.{ended};
 ghost use Rattle.line_words.specs.Told.{refusal_of};
@@ -18,11 +19,11 @@ ghost use Rattle.word_tables.specs.Layout.{total_lines};
 ghost use Rattle.file_journal.specs.Area.{file_area};
 ghost use Rattle.file_journal.specs.Changes.{named_units, switched};
 ghost use Rattle.file_journal.specs.Images.{EachReadsTables, IsEither};
-ghost use Rattle.file_journal.specs.Object.{JournalServes, KeepsUnits};
+ghost use Rattle.file_journal.specs.Object.{JournalServes, JournalState, KeepsUnits};
 ghost use Rattle.file_journal.specs.Refusals.{journal_says, switch_refusal};
 ghost use Rattle.file_journal.specs.Switches.{AreHeld, AreSwitches, ArePagesOf};
 ghost use Rattle.file_pages.specs.Fresh.{AreFresh, AreOwn, GetsUnit, IsUnitLine, NeedsNone, Takes, switch_units};
-ghost use Rattle.file_journal.specs.Tables.{unit_at};
+ghost use Rattle.file_journal.specs.Tables.{IsVacant, unit_at};
 ghost use Rattle.file_pages.specs.Object.{pages_there, unit_place};
 
 use crate::checks::is_hole;
@@ -82,6 +83,16 @@ pub(crate) fn take(journal: &mut Journal) -> u64
         Some(unit) => unit,
         None => unreachable!(),
     }
+}
+
+/// Gives back a unit that was just taken.
+pub(crate) fn give_back(journal: &mut Journal, unit: u64)
+    requires taken { IsTaken journal.old.free unit }
+    requires vacant { IsVacant journal.old.tables.pages unit }
+    ensures before { (before : JournalState) → Takes before journal.old unit → journal.new ≡ before }
+    ensures serves { (m : Medium) → JournalServes journal.old m → JournalServes journal.new m }
+{
+    journal.give_unit(unit);
 }
 
 /// Makes the lines of units zeros, durably.

@@ -5,6 +5,7 @@ ghost use Rattle.line_words.specs.Told.{outcome_by};
 ghost use Rattle.line_words.specs.Words.{WritesBackOutside};
 ghost use Rattle.nvm_model.specs.Lines.{AreStrong};
 ghost use Rattle.word_log.specs.Area.{IsOf, gate_place};
+ghost use Rattle.word_log.specs.Mount.{LeavesWrong};
 ghost use Rattle.word_log.specs.Rest.{EachImage, IsReached};
 ghost use Rattle.word_tables.specs.Bounds.{IsValid};
 ghost use Rattle.word_tables.specs.Layout.{meta_lines, total_lines};
@@ -32,6 +33,7 @@ impl FilePages {
         ensures held { IfOk result (λ files. known_units files.journal.tables.pages files.journal.free ≡ geo.fpages) }
         ensures finds { FindsJournal geo (L.state dev.old).medium result }
         ensures images { EachImage (file_area geo) (L.state dev.new).medium (IsReached (file_area geo) (L.state dev.old).medium) }
+        ensures refused { LeavesWrong (file_area geo) (L.state dev.old).medium (L.state dev.new).medium }
         ensures closed { last_image (L.state dev.old).medium (gate_place (file_area geo)) ≡ 0
             → WritesBack (L.state dev.old).medium (L.state dev.new).medium }
         ensures outside { WritesBackOutside (IsOf (file_area geo)) (L.state dev.old).medium (L.state dev.new).medium }

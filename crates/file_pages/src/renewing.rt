@@ -1,5 +1,5 @@
 // Pages that are written before any file has them.
-ghost use Rattle.std.specs.Prelude.{◌≡◌, ◌+◌, ◌*◌, ◌<◌, ◌≤◌, ℕ, IfOk, IsTrue, List, None, OnOk, drop, length, take};
+ghost use Rattle.std.specs.Prelude.{◌≡◌, ◌+◌, ◌*◌, ◌<◌, ◌≤◌, ℕ, IfOk, IsTrue, List, None, OnErr, OnOk, drop, length, take};
 ghost use Rattle.free_pool.specs.Units.{free_count};
 ghost use Rattle.line_device.specs.Panel.{Runs};
 ghost use Rattle.line_words.specs.Ending.{ended};
@@ -17,15 +17,15 @@ ghost use Rattle.file_pages.specs.Object.{KeepsMarks, PagesServe, is_settled};
 ghost use Rattle.file_pages.specs.Refusals.{page_says};
 
 use crate::durable::renew_lines;
-use crate::fresh::take;
+use crate::fresh::{give_back, take};
 use crate::{FilePages, PageFault};
 use file_journal::Journal;
 use line_device::Lines;
 use line_words::Interruption;
 
 impl FilePages {
-    /// Takes a unit and gives it these bytes: its lines are healthy, not weak and durable. No page has it yet; where the call is
-    /// stopped it stays taken.
+    /// Takes a unit and gives it these bytes: its lines are healthy, not weak and durable. No page has it yet. Where the call
+    /// is stopped the unit is given back.
     pub fn fresh_page<L: Lines>(&mut self, dev: &mut L, bytes: &[u8]) -> Result<u64, PageFault>
         requires serves { PagesServe self.old (L.state dev.old).medium }
         requires settled { IsTrue (is_settled self.old) }
@@ -34,6 +34,7 @@ impl FilePages {
         requires free { 1 ≤ free_count self.old.journal.free }
         ensures refused { Answers page_says None result }
         ensures unit { IfOk result (Takes self.old.journal self.new.journal) }
+        ensures stopped { OnErr result (self.new.journal ≡ self.old.journal) }
         ensures lines { IfOk result (λ unit. (k : ℕ) → k < 64
             → CellStands (L.state dev.new).medium (file_line self.old.journal.geo unit + k) (durable_cell (take 64 (drop (64 * k) bytes.now)))) }
         ensures beside { IfOk result (λ unit. WritesBackOthers (IsOfUnit (file_line self.old.journal.geo unit)) (L.state dev.old).medium (L.state dev.new).medium) }
@@ -50,9 +51,16 @@ impl FilePages {
     {
         let unit = take(&mut self.journal);
         self.settled = false;
-        renew_unit(&self.journal, dev, unit, bytes)?;
-        self.settled = true;
-        Ok(unit)
+        match renew_unit(&self.journal, dev, unit, bytes) {
+            Ok(()) => {
+                self.settled = true;
+                Ok(unit)
+            }
+            Err(stop) => {
+                give_back(&mut self.journal, unit);
+                Err(PageFault::from(stop))
+            }
+        }
     }
 }
 

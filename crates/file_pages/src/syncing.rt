@@ -8,6 +8,7 @@ ghost use Rattle.nvm_model.specs.Interrupted.{MaySync};
 ghost use Rattle.nvm_model.specs.Listing.{change_file, file_name};
 ghost use Rattle.nvm_model.specs.Page.{persist};
 ghost use Rattle.nvm_model.specs.Storage.{File};
+ghost use Rattle.page_lines.specs.Placed.{IsPlaced};
 ghost use Rattle.page_lines.specs.Turns.{WritesBackOthers};
 ghost use Rattle.word_tables.specs.Bounds.{IsValid};
 ghost use Rattle.inode_table.specs.Slots.{pages_at};
@@ -16,7 +17,7 @@ ghost use Rattle.file_journal.specs.Object.{JournalServes};
 ghost use Rattle.file_journal.specs.Standing.{EachReadsFiles, FilesStand};
 ghost use Rattle.file_journal.specs.Tables.{AreTables};
 ghost use Rattle.file_pages.specs.Costs.{lines_there};
-ghost use Rattle.file_pages.specs.Object.{IsFileAt, KeepsMarks, PagesServe, is_settled};
+ghost use Rattle.file_pages.specs.Object.{IsFileAt, KeepsMarks, PagesServe, file_place, is_settled};
 ghost use Rattle.file_pages.specs.Refusals.{page_says, read_refusal};
 
 use crate::checks::check_readable;
@@ -50,6 +51,7 @@ impl FilePages {
         ensures images { OnWorked page_says result ((files : List File) (file : File)
             → IsFileAt self.old.journal (L.state dev.old).medium inode files file
             → EachReadsFiles self.old.journal.geo (L.state dev.new).medium (OneFileLeft file.name (MaySync span.start span.len) files)) }
+        ensures beside { WritesBackOthers (IsPlaced (file_place self.old.journal inode) span.start span.len) (L.state dev.old).medium (L.state dev.new).medium }
         ensures outside { WritesBackOthers (IsOfFiles self.old.journal.geo) (L.state dev.old).medium (L.state dev.new).medium }
         ensures metadata { KeepsMarks self.old.journal.geo (L.state dev.old).medium (L.state dev.new).medium }
         ensures serves { PagesServe self.new (L.state dev.new).medium }
@@ -81,6 +83,7 @@ impl FilePages {
             (change_file file_name file.name (on_pages (λ pages. persist span.start span.len pages)) files)) }
         ensures images { (files : List File) (file : File) → IsFileAt self.old.journal (L.state dev.old).medium inode files file
             → EachReadsFiles self.old.journal.geo (L.state dev.new).medium (OneFileLeft file.name (MaySync span.start span.len) files) }
+        ensures beside { WritesBackOthers (IsPlaced (file_place self.old.journal inode) span.start span.len) (L.state dev.old).medium (L.state dev.new).medium }
         ensures outside { WritesBackOthers (IsOfFiles self.old.journal.geo) (L.state dev.old).medium (L.state dev.new).medium }
         ensures metadata { KeepsMarks self.old.journal.geo (L.state dev.old).medium (L.state dev.new).medium }
         ensures serves { PagesServe self.new (L.state dev.new).medium }
@@ -115,6 +118,7 @@ fn persist<L: Lines>(
         (change_file file_name file.name (on_pages (λ pages. persist span.start span.len pages)) files)) }
     ensures images { (files : List File) (file : File) → IsFileAt journal.now (L.state dev.old).medium inode files file
         → EachReadsFiles journal.now.geo (L.state dev.new).medium (OneFileLeft file.name (MaySync span.start span.len) files) }
+    ensures beside { WritesBackOthers (IsPlaced (file_place journal.now inode) span.start span.len) (L.state dev.old).medium (L.state dev.new).medium }
     ensures outside { WritesBackOthers (IsOfFiles journal.now.geo) (L.state dev.old).medium (L.state dev.new).medium }
     ensures metadata { KeepsMarks journal.now.geo (L.state dev.old).medium (L.state dev.new).medium }
     ensures serves { JournalServes journal.now (L.state dev.new).medium }

@@ -15,7 +15,7 @@ ghost use Rattle.file_journal.specs.Standing.{EachReadsFiles, FilesStand};
 ghost use Rattle.file_journal.specs.Tables.{AreTables};
 ghost use Rattle.file_pages.specs.Object.{IsFileAt, KeepsMarks, PagesServe, is_settled};
 ghost use Rattle.flush_engine.specs.Refusals.{flush_refusal, flush_says, flushed};
-ghost use Rattle.flush_engine.specs.Spans.{IsWithin, lines_in};
+ghost use Rattle.flush_engine.specs.Spans.{IsSpanned, IsWithin, lines_in};
 
 use crate::FlushFault;
 use crate::checks::check;
@@ -46,6 +46,7 @@ pub fn flush<L: Lines>(
     ensures images { OnWorked flush_says result ((listed : List File) (file : File)
         → IsFileAt files.old.journal (L.state dev.old).medium inode listed file
         → EachReadsFiles files.old.journal.geo (L.state dev.new).medium (OneFileLeft file.name (MaySyncAll spans.now) listed)) }
+    ensures beside { WritesBackOthers (IsSpanned files.old.journal inode spans.now) (L.state dev.old).medium (L.state dev.new).medium }
     ensures outside { WritesBackOthers (IsOfFiles files.old.journal.geo) (L.state dev.old).medium (L.state dev.new).medium }
     ensures metadata { KeepsMarks files.old.journal.geo (L.state dev.old).medium (L.state dev.new).medium }
     ensures serves { PagesServe files.new (L.state dev.new).medium }
@@ -77,6 +78,7 @@ fn persist_all<L: Lines>(
         (change_file file_name file.name (on_pages (persist_spans spans.now)) listed)) }
     ensures images { (listed : List File) (file : File) → IsFileAt files.old.journal (L.state dev.old).medium inode listed file
         → EachReadsFiles files.old.journal.geo (L.state dev.new).medium (OneFileLeft file.name (MaySyncAll spans.now) listed) }
+    ensures beside { WritesBackOthers (IsSpanned files.old.journal inode spans.now) (L.state dev.old).medium (L.state dev.new).medium }
     ensures outside { WritesBackOthers (IsOfFiles files.old.journal.geo) (L.state dev.old).medium (L.state dev.new).medium }
     ensures metadata { KeepsMarks files.old.journal.geo (L.state dev.old).medium (L.state dev.new).medium }
     ensures serves { PagesServe files.new (L.state dev.new).medium }

@@ -13,7 +13,7 @@ ghost use Rattle.file_journal.specs.Area.{IsOfFiles};
 ghost use Rattle.file_journal.specs.Standing.{EachReadsFiles, FilesStand};
 ghost use Rattle.file_pages.specs.Object.{IsFileAt, KeepsMarks, PagesServe, is_settled};
 ghost use Rattle.flush_engine.specs.Refusals.{flush_refusal, flush_says, flushed, verified};
-ghost use Rattle.flush_engine.specs.Spans.{IsWithin, lines_in};
+ghost use Rattle.flush_engine.specs.Spans.{IsSpanned, IsWithin, lines_in};
 
 use crate::{FlushFault, flush, next_bad};
 use file_pages::FilePages;
@@ -42,6 +42,7 @@ pub fn flush_verify<L: Lines>(
     ensures images { OnWorked flush_says (flushed result) ((listed : List File) (file : File)
         → IsFileAt files.old.journal (L.state dev.old).medium inode listed file
         → EachReadsFiles files.old.journal.geo (L.state dev.new).medium (OneFileLeft file.name (MaySyncAll spans.now) listed)) }
+    ensures beside { WritesBackOthers (IsSpanned files.old.journal inode spans.now) (L.state dev.old).medium (L.state dev.new).medium }
     ensures outside { WritesBackOthers (IsOfFiles files.old.journal.geo) (L.state dev.old).medium (L.state dev.new).medium }
     ensures metadata { KeepsMarks files.old.journal.geo (L.state dev.old).medium (L.state dev.new).medium }
     ensures serves { PagesServe files.new (L.state dev.new).medium }

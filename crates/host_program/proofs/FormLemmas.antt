@@ -1,19 +1,20 @@
 -- What a form does or fails at, as a whole.
-use Rattle.std.proofs.Common.{◌≡◌, ◌⊎◌, inl, inr, ℕ, ◌≤◌, ◌≢◌, List, [], ◌++◌, take, drop, Option, Some, None, Result, Ok, Err, refl, sym, ap, ap₂, subst, ◌∙◌, append-nil, arith}
-use Rattle.std.proofs.lemmas.List.{take-append-drop}
-use Rattle.std.specs.Prelude.{⊤, codes, decimal, IfOk, IfSome, MatchResult}
+use Rattle.std.proofs.Common.{◌≡◌, ◌⊎◌, inl, inr, ℕ, ◌≤◌, ◌≢◌, List, [], ◌++◌, Option, Some, None, Result, Ok, Err, refl, sym, ap, ap₂, subst, ◌∙◌, append-nil, arith}
+use Rattle.std.specs.Prelude.{⊤, codes, decimal, IfSome}
 use Rattle.std.specs.Io.KnownBytes.{Appends}
 use Rattle.nvm_base.specs.Counts.{Rose, raised}
-use Rattle.nvm_base.specs.Stock.{Stock}
+use Rattle.command_line.specs.Words.{Form}
 use Rattle.command_line.specs.Words.Form.{of_bench, of_check, of_new, of_run}
+use Rattle.command_line.specs.declared.fault.WordsFault.{WordsFault}
+use Rattle.command_line.specs.declared.fault.WordsFault.TheVariants as words
 use Rattle.host_io.specs.Images.{CountsReplace, Held, KeepsHeld}
-use Rattle.host_io.specs.Writing.{WritesAll}
 use Rattle.host_io.specs.declared.images.ImageCounts.{ImageCounts}
 use Rattle.host_io.specs.declared.sink.WriteFault.{WriteFault}
 use Rattle.host_io.specs.declared.sink.WriteFault.TheVariants as write
 use Rattle.line_device.specs.Device.{Device}
 use Rattle.line_device.specs.Medium.{IsSound}
 use Rattle.line_device.specs.Panel.{KeepsPower, Panel, SetsUp, after_disarm}
+use Rattle.line_device.specs.Panel.Outcome.{went}
 use Rattle.word_tables.specs.declared.geometry.Geometry.{Geometry}
 use Rattle.machine_model.specs.declared.mode.Mode.TheVariants as modes
 use Rattle.machine_host.specs.Machine.{Machine, bad_of}
@@ -21,15 +22,16 @@ use Rattle.machine_host.specs.Run.{Run}
 use Rattle.script_text.specs.Script.{inputs_of, lines_of}
 use Rattle.machine_host.specs.Settling.{Settled}
 use Rattle.machine_host.specs.Stands.{HostServes, HostState, Stands}
+use Rattle.machine_host.proofs.CostLemmas.{opens-none}
 use Rattle.machine_host.proofs.RunLemmas.{tells_then}
 use Rattle.host_program.specs.Bench.{IsUnstarted}
-use Rattle.program_base.specs.Ending.{numbered_line, of_write}
-use Rattle.host_program.specs.Forms.{FailsToCreate, IsCaused, IsUnwritten, Outcome, checked_text, created_text}
-use Rattle.program_base.specs.Opening.{CountsOpening, IsReady, StaysClosed, opened, opening}
+use Rattle.program_base.specs.Ending.{numbered_line, of_words, of_write}
+use Rattle.host_program.specs.Forms.{Fails, FailsToCreate, IsCaused, IsUnwritten, Outcome, checked_text, created_text}
+use Rattle.program_base.specs.Opening.{CountsOpening, FailsToOpen, IsReady, StaysClosed, opened, opening}
 use Rattle.host_program.specs.Running.{Performs}
 use Rattle.host_program.specs.Storing.{HoldsOn, NotReadOut, Stores}
 use Rattle.program_base.specs.Writing.{WritesFront}
-use Rattle.host_program.specs.Whole.{IsRun}
+use Rattle.host_program.specs.Whole.{ComesToRest, IsRun}
 use Rattle.program_base.specs.World.{World}
 use Rattle.program_base.specs.declared.ending.Ending.{Ending}
 use Rattle.program_base.specs.declared.ending.Ending.TheVariants.{Memory, Read, Script, Usage, Write}
@@ -110,12 +112,12 @@ holds-then name a b c before counted counts x same (inl y) = inl (keeps-then (λ
 holds-then name a b c before counted counts x same (inr y) = inr (subst (λ n. Rose n counts.replace_faults) same y.0, keeps-then (λ other. other ≢ name) a b c x y.1)
 
 -- why an image was not stored
-unstored : (e : Ending) (old new : World) (counted : ImageCounts) (rest : Panel) → old.device.panel.counts.setups ≤ rest.counts.setups → counted.replace_faults ≡ old.images.replace_faults
-    → NotReadOut e rest new.device.panel ⊎ ((e ≡ Write) × Rose counted.replace_faults new.images.replace_faults) → IsCaused e old new
-unstored e old new counted rest later same (inl (inl is)) = subst (λ e. IsCaused e old new) (sym is) tt
-unstored e old new counted rest later same (inl (inr read)) =
+unstored : (e : Ending) (old new : World) (counted : ImageCounts) (rest : Panel) (read_out : Type 0) → old.device.panel.counts.setups ≤ rest.counts.setups → counted.replace_faults ≡ old.images.replace_faults
+    → NotReadOut e rest new.device.panel ⊎ ((e ≡ Write) × read_out × Rose counted.replace_faults new.images.replace_faults) → IsCaused e old new
+unstored e old new counted rest read_out later same (inl (inl is)) = subst (λ e. IsCaused e old new) (sym is) tt
+unstored e old new counted rest read_out later same (inl (inr read)) =
     subst (λ e. IsCaused e old new) (sym read.0) (let rose = read.1 in omega (arith, rose, later))
-unstored e old new counted rest later same (inr stored) = subst (λ e. IsCaused e old new) (sym stored.0) (inr (subst (λ n. Rose n new.images.replace_faults) same stored.1))
+unstored e old new counted rest read_out later same (inr stored) = subst (λ e. IsCaused e old new) (sym stored.0) (inr (subst (λ n. Rose n new.images.replace_faults) same stored.2))
 
 -- host and device that were brought to rest go on
 pub served_settled : (name : List ℕ) (held : Option Held) (host after settled : HostState) (left_old left written answered : Option (List ℕ)) (old opened_as ran rest : Device) → IsReady name held host old opened_as
@@ -185,11 +187,11 @@ run_over from to host after settled opened_as ran rest held counted (Err e) old 
     let left = stores.outcome in
     inr (halts-unstored from to e host after opened_as ran old new ready performs
     (rests-settled says.end.mode says.end comes.next comes.starts stores.end ran.panel rest.panel new.device.panel comes.comes comes.asks comes.restarts stores.sets_up)
-    (λ by. not_source left.0 by)
-    (unstored e old new counted rest.panel (omega (arith, ready.mounted.tells.setups, says.outcome.tells.setups, comes.asks.setups)) counts.replace_faults left.0)
+    (λ by. not_source left.0 by) (λ is end stands. at_rest end (settles end stands) (was_read left.0 is))
+    (unstored e old new counted rest.panel (stores.end ≡ went) (omega (arith, ready.mounted.tells.setups, says.outcome.tells.setups, comes.asks.setups)) counts.replace_faults left.0)
     (replaced left.2) (stores.fetches ∙ counts.fetches) (holds-then to old.held held new.held old.images counted new.images kept counts.replace_faults left.1))
   where
-    not_source : NotReadOut e rest.panel new.device.panel ⊎ ((e ≡ Write) × Rose counted.replace_faults new.images.replace_faults) → (e ≡ Read) ⊎ (e ≡ Script) → ⊥
+    not_source : NotReadOut e rest.panel new.device.panel ⊎ ((e ≡ Write) × (stores.end ≡ went) × Rose counted.replace_faults new.images.replace_faults) → (e ≡ Read) ⊎ (e ≡ Script) → ⊥
     not_source (inl (inl is)) (inl by) = cc (is, by)
     not_source (inl (inl is)) (inr by) = cc (is, by)
     not_source (inl (inr is)) (inl by) = let at = is.0 in cc (at, by)
@@ -197,9 +199,49 @@ run_over from to host after settled opened_as ran rest held counted (Err e) old 
     not_source (inr is) (inl by) = let at = is.0 in cc (at, by)
     not_source (inr is) (inr by) = let at = is.0 in cc (at, by)
 
+    was_read : NotReadOut e rest.panel new.device.panel ⊎ ((e ≡ Write) × (stores.end ≡ went) × Rose counted.replace_faults new.images.replace_faults) → e ≡ Write → stores.end ≡ went
+    was_read (inl (inl is)) by = cc (is, by)
+    was_read (inl (inr is)) by = let at = is.0 in cc (at, by)
+    was_read (inr is) by = is.1
+
+    at_rest : (end : Machine) → Settled end settled (after_disarm ran.panel) rest → stores.end ≡ went → ComesToRest end new.device
+    at_rest end comes read =
+        let stands = comes.stands.device in
+        record {
+          starts = comes.starts;
+          last = comes.next;
+          comes = comes.comes;
+          stands = stands-read_out comes.next rest new.device stands stores.wrote (subst (λ end. SetsUp end rest.panel new.device.panel) read stores.sets_up)
+              (subst (λ end. KeepsPower end rest.panel new.device.panel) read stores.power) (sym stands.cut_armed ∙ comes.asks.cut_armed) (sym stands.fail_armed ∙ comes.asks.fail_armed);
+        }
+
     replaced : (new.images.replaces ≡ counted.replaces) ⊎ (new.images.replaces ≡ raised counted.replaces) → (new.images.replaces ≡ old.images.replaces) ⊎ (new.images.replaces ≡ raised old.images.replaces)
     replaced (inl none) = inl (none ∙ counts.replaces)
     replaced (inr one) = inr (one ∙ ap raised counts.replaces)
+
+-- nothing was done for want of memory
+closed : (name : List ℕ) (old : World) → FailsToOpen name Memory old old
+closed name old = record {
+  cause = tt;
+  opens = opens-none old.device.panel;
+  held = keeps-same old.held;
+  counts = inl refl;
+  written = refl;
+  script = record { left = refl; reads = refl };
+}
+
+pub unread : (fault : WordsFault) (form : Form) (old : World) → (fault ≡ words.Usage → ⊥) → Fails form (of_words fault) old old
+unread words.Usage form old used = absurd (used refl)
+unread words.Memory (of_new name geo) old used =
+    untold name geo write.Memory old old (record { part = []; front = record { rest = created_text geo; joined = refl }; wrote = appends-none old.written }) (λ is. cc is) refl refl refl refl refl
+unread words.Memory (of_run from to) old used = inl (closed from old)
+unread words.Memory (of_check name) old used = inl (closed name old)
+unread words.Memory (of_bench seed count) old used = inl (record {
+  cause = tt;
+  opens = opens-none old.device.panel;
+  written = refl;
+  aside = record { held = refl; images = refl; script = record { left = refl; reads = refl } };
+})
 
 -- a form that was read is not taken for none
 pub never_new : (name : List ℕ) (geo : Geometry) (r : Result (Unit {0}) Ending) (old new : World) → Outcome (of_new name geo) r old new → r ≡ Err Usage → ⊥

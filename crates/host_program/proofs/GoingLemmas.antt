@@ -20,7 +20,7 @@ use Rattle.script_text.proofs.GivenLemmas.{given-end, given-line, given-start}
 use Rattle.machine_host.specs.Machine.{Machine}
 use Rattle.machine_host.specs.Run.{Transcript, Run, followed_by, silence}
 use Rattle.machine_host.specs.Telling.{Tells}
-use Rattle.machine_host.specs.Stands.{HostState, Stands}
+use Rattle.machine_host.specs.Stands.{DeviceStands, HostState, Stands}
 use Rattle.machine_host.proofs.RunLemmas.{run_of_one, run_then, reply_text-append, tells_silence, tells_then}
 use Rattle.program_base.specs.Ending.{of_write}
 use Rattle.program_base.specs.declared.ending.Ending.{Ending}
@@ -204,15 +204,17 @@ take_nil zero = refl
 take_nil (suc n) = refl
 
 -- what a run says that ended early, and by the source only with nothing waiting
-pub record Breaks (ending : Ending) (bytes : List ℕ) (now reader' : Stream) (out : List ℕ) : Type 0 where
-  pub source : (ending ≡ Read) ⊎ (ending ≡ Script) → IsUnbroken bytes × (now.ended ≡ false) × (out ≡ [])
+pub record Breaks (ending : Ending) (bytes : List ℕ) (reader reader' : Stream) (out : List ℕ) (now next : Device) : Type 0 where
+  pub source : (ending ≡ Read) ⊎ (ending ≡ Script) → IsUnbroken bytes × (reader.ended ≡ false) × (out ≡ [])
   pub long : ending ≡ Script → 1073741824 ≤ reader'.taken
+  pub short : ending ≡ Read → reader'.taken < 1073741824
+  pub still : (ending ≡ Read) ⊎ (ending ≡ Script) ⊎ (ending ≡ Write) → next ≡ now
 
 -- an end before the end: some of the replies that wait may be written, and a command may be left without its answer
 pub going-broken : (reader reader' : Stream) (a b c : Option (List ℕ)) (taken : List ℕ) (before host : HostState) (out : List ℕ) (written_old written written' : Option (List ℕ)) (old now next : Device)
     (ending : Ending) (after : HostState) → Going reader a b before host out written_old written old now → Consumes b c taken → reader'.taken ≡ reader.taken + length taken
     → (IsTrue reader.ended → (taken ≡ []) × IsTrue reader'.ended) → ((IsTrue reader.ended → IsAtEnd b) → IsTrue reader'.ended → IsAtEnd c)
-    → GoesUnanswered now.panel next.panel → AppendsSome out written written' → Breaks ending (reader.waiting ++ taken) reader reader' out
+    → GoesUnanswered now.panel next.panel → AppendsSome out written written' → Breaks ending (reader.waiting ++ taken) reader reader' out now next
     → Performs before after (Err ending) a c written_old written' old next
 going-broken reader reader' a b c taken before host out written_old written written' old now next ending after going read counts stays ends left some breaks = record {
   says = λ first stands.
@@ -251,6 +253,8 @@ going-broken reader reader' a b c taken before host out written_old written writ
                 all = ap (λ t. was.part ++ t) (none-taken some.count out source.2) ∙ ap (λ t. was.part ++ t) (sym source.2) ∙ was.text;
               };
           long = λ is. omega (arith, breaks.long is, counts, going.count, length-append going.script taken);
+          short = λ is. omega (arith, breaks.short is, counts, going.count, length-append going.script taken);
+          stands = λ by. subst (λ (d : Device). DeviceStands d was.state) (sym (breaks.still by)) was.stands.device;
         };
       };
 }
@@ -262,13 +266,18 @@ going-broken reader reader' a b c taken before host out written_old written writ
 pub appends_some-none : (out : List ℕ) (written : Option (List ℕ)) → AppendsSome out written written
 appends_some-none out written = record { count = 0; within = omega arith; part = appends-none written }
 
--- nothing more was taken
+-- nothing more was taken, and where a write failed nothing done
 broken-still : (reader : Stream) (a b : Option (List ℕ)) (before host : HostState) (out : List ℕ) (written_old written written' : Option (List ℕ)) (old now next : Device)
     (ending : Ending) (after : HostState) → Going reader a b before host out written_old written old now → GoesUnanswered now.panel next.panel → AppendsSome out written written'
-    → (ending ≡ Write) ⊎ (ending ≡ Memory) → Performs before after (Err ending) a b written_old written' old next
-broken-still reader a b before host out written_old written written' old now next ending after going left some which =
+    → (ending ≡ Write) ⊎ (ending ≡ Memory) → (ending ≡ Write → next ≡ now) → Performs before after (Err ending) a b written_old written' old next
+broken-still reader a b before host out written_old written written' old now next ending after going left some which same =
     going-broken reader reader a b b [] before host out written_old written written' old now next ending after going (consumes-none b) (omega arith) (λ is. (refl, is)) (λ before is. before is) left some
-    (record { source = λ by. absurd (not_source which by); long = λ is. absurd (not_source which (inr is)) })
+    (record {
+      source = λ by. absurd (not_source which by);
+      long = λ is. absurd (not_source which (inr is));
+      short = λ is. absurd (not_source which (inl is));
+      still = still;
+    })
   where
     not_source : (ending ≡ Write) ⊎ (ending ≡ Memory) → (ending ≡ Read) ⊎ (ending ≡ Script) → ⊥
     not_source (inl x) (inl y) = cc (x, y)
@@ -276,16 +285,21 @@ broken-still reader a b before host out written_old written written' old now nex
     not_source (inr x) (inl y) = cc (x, y)
     not_source (inr x) (inr y) = cc (x, y)
 
+    still : (ending ≡ Read) ⊎ (ending ≡ Script) ⊎ (ending ≡ Write) → next ≡ now
+    still (inl is) = absurd (not_source which (inl is))
+    still (inr (inl is)) = absurd (not_source which (inr is))
+    still (inr (inr is)) = same is
+
 -- there was no memory to begin
 pub going-unbegun : (left : Option (List ℕ)) (host : HostState) (written : Option (List ℕ)) (d : Device) → Performs host host (Err Memory) left left written written d d
 going-unbegun left host written d =
-    broken-still stream_start left left host host [] written written written d d d Memory host (going-start stream_start left host [] written d refl refl) (unanswered-none d.panel) (appends_some-none [] written) (inr refl)
+    broken-still stream_start left left host host [] written written written d d d Memory host (going-start stream_start left host [] written d refl refl) (unanswered-none d.panel) (appends_some-none [] written) (inr refl) (λ _. refl)
 
 -- the replies that wait were not written
 pub going-unwritten : (reader : Stream) (a b : Option (List ℕ)) (before host : HostState) (out : List ℕ) (written_old written written' : Option (List ℕ)) (old now : Device) (fault : WriteFault)
     → Going reader a b before host out written_old written old now → AppendsSome out written written' → Performs before host (Err (of_write fault)) a b written_old written' old now
 going-unwritten reader a b before host out written_old written written' old now fault going some =
-    broken-still reader a b before host out written_old written written' old now now (of_write fault) host going (unanswered-none now.panel) some (of_fault fault)
+    broken-still reader a b before host out written_old written written' old now now (of_write fault) host going (unanswered-none now.panel) some (of_fault fault) (λ _. refl)
   where
     of_fault : (f : WriteFault) → (of_write f ≡ Write) ⊎ (of_write f ≡ Memory)
     of_fault write.Failed = inl refl
@@ -300,7 +314,7 @@ source_broken reader reader' b c next fault out reads is waits =
   where
     faulty : (n : Result NextLine InputFault) → Gives (reader.waiting ++ reads.taken) reader' n → (f : InputFault) → n ≡ Err f → IsUnbroken (reader.waiting ++ reads.taken) × (reader'.ended ≡ false)
     faulty (Ok line) gives f is = cc is
-    faulty (Err Failed) gives f is = gives
+    faulty (Err Failed) gives f is = (gives.0, gives.1)
     faulty (Err TooLarge) gives f is = (gives.0, gives.1)
 
 -- and so many bytes were taken
@@ -308,6 +322,20 @@ source_large : (reader reader' : Stream) (b c : Option (List ℕ)) (next : Resul
 source_large reader reader' b c (Ok line) reads is = cc is
 source_large reader reader' b c (Err Failed) reads is = cc is
 source_large reader reader' b c (Err TooLarge) reads is = reads.gives.2
+
+-- fewer were taken where it failed
+source_small : (reader reader' : Stream) (b c : Option (List ℕ)) (next : Result NextLine InputFault) (reads : ReadsLine reader reader' b c next) → next ≡ Err Failed → reader'.taken < 1073741824
+source_small reader reader' b c (Ok line) reads is = cc is
+source_small reader reader' b c (Err Failed) reads is = reads.gives.2
+source_small reader reader' b c (Err TooLarge) reads is = cc is
+
+memory_not_ended : (Memory ≡ Read) ⊎ (Memory ≡ Script) ⊎ (Memory ≡ Write) → ⊥
+memory_not_ended (inl is) = cc is
+memory_not_ended (inr (inl is)) = cc is
+memory_not_ended (inr (inr is)) = cc is
+
+pub memory_not_write : Memory ≡ Write → ⊥
+memory_not_write is = cc is
 
 pub memory_not_source : (Memory ≡ Read) ⊎ (Memory ≡ Script) → ⊥
 memory_not_source (inl is) = cc is
@@ -328,13 +356,29 @@ going-stopped reader reader' a b c before host out out' written_old written old 
     by_source fault is = source_broken reader reader' b c answers.next fault out answers.reads is waits
 
     stopped : (e : Ending) → Comes answers.next (reader.waiting ++ answers.reads.taken) reader' (Err e) host after out out' now next
-        → Breaks e (reader.waiting ++ answers.reads.taken) reader reader' out × GoesUnanswered now.panel next.panel
-    stopped Read comes = (record { source = λ _. by_source Failed comes.0; long = λ is. cc is }, still comes.1.same_device)
-    stopped Script comes = (
-      record { source = λ _. by_source TooLarge comes.0; long = λ _. source_large reader reader' b c answers.next answers.reads comes.0 },
+        → Breaks e (reader.waiting ++ answers.reads.taken) reader reader' out now next × GoesUnanswered now.panel next.panel
+    stopped Read comes = (
+      record {
+        source = λ _. by_source Failed comes.0;
+        long = λ is. cc is;
+        short = λ _. source_small reader reader' b c answers.next answers.reads comes.0;
+        still = λ _. comes.1.same_device;
+      },
       still comes.1.same_device,
     )
-    stopped Memory comes = (record { source = λ by. absurd (memory_not_source by); long = λ is. cc is }, comes.left)
+    stopped Script comes = (
+      record {
+        source = λ _. by_source TooLarge comes.0;
+        long = λ _. source_large reader reader' b c answers.next answers.reads comes.0;
+        short = λ is. cc is;
+        still = λ _. comes.1.same_device;
+      },
+      still comes.1.same_device,
+    )
+    stopped Memory comes = (
+      record { source = λ by. absurd (memory_not_source by); long = λ is. cc is; short = λ is. cc is; still = λ by. absurd (memory_not_ended by) },
+      comes.left,
+    )
     stopped Write comes = absurd comes
     stopped Usage comes = absurd comes
     stopped (Image offset) comes = absurd comes

@@ -1,5 +1,5 @@
 -- A run of a script over an image that was opened, as far as it came.
-use Rattle.std.proofs.Common.{◌≡◌, ◌⊎◌, inl, inr, ℕ, ◌≤◌, List, length, Option, Some, None, Ok, Err, refl, ap, subst, length-append, arith}
+use Rattle.std.proofs.Common.{◌≡◌, ◌⊎◌, inl, inr, ℕ, ◌<◌, ◌≤◌, List, length, Option, Some, None, Ok, Err, refl, ap, subst, length-append, arith}
 use Rattle.std.specs.Prelude.{IfSome, ⊤}
 use Rattle.std.specs.Io.KnownBytes.{Consumes}
 use Rattle.nvm_base.specs.Counts.{raised}
@@ -14,7 +14,7 @@ use Rattle.word_tables.specs.declared.geometry.Geometry.{Geometry}
 use Rattle.machine_host.specs.Machine.{Machine}
 use Rattle.machine_host.specs.Restarting.{reading}
 use Rattle.machine_host.specs.Run.{Run, Transcript}
-use Rattle.machine_host.specs.Stands.{HostState}
+use Rattle.machine_host.specs.Stands.{HostState, Stands}
 use Rattle.durable.specs.Durable.{BringBytes}
 use Rattle.durable.proofs.FileLemmas.{files_through}
 use Rattle.durable.proofs.PassLemmas.{keeps_through}
@@ -25,7 +25,7 @@ use Rattle.host_program.specs.Forms.{Halts, IsCaused, IsThrough}
 use Rattle.program_base.specs.Opening.{CountsOpening, IsReady, opened}
 use Rattle.host_program.specs.Running.{IsBroken, Performs}
 use Rattle.host_program.specs.Storing.{HoldsOn}
-use Rattle.host_program.specs.Whole.{GoesToRest, IsRun}
+use Rattle.host_program.specs.Whole.{ComesToRest, GoesToRest, IsRun}
 use Rattle.program_base.specs.World.{World}
 use Rattle.program_base.specs.declared.ending.Ending.{Ending}
 use Rattle.program_base.specs.declared.ending.Ending.TheVariants.{Usage, Layout, Meta, Read, Write, Memory, Script}
@@ -91,19 +91,32 @@ halts-unperformed from to e host after opened old new ready performs broken kept
       run = is_run-opened ready.lines old.device.panel says.lines says.said ready.mounted.begin says.end ready.mounted.begins says.run;
       front = says.front;
       answered = says.outcome.answered;
+      long = says.outcome.long;
+      short = short says.script says.outcome.short broken;
+      stands = λ by. says.outcome.stands (by_source by);
+      rests = λ is. inl (says.outcome.stands (inr (inr is)));
       wrote = says.wrote;
       tells = inl (tells_first-after (λ count. count) says.said says.end old.device.panel opened.panel new.device.panel ready.mounted.tells says.outcome.tells);
       replaced = inl counts.replaces;
       fetches = counts.fetches;
       holds = inl kept;
     }
+  where
+    short : (script : List ℕ) → (e ≡ Read → length script < 1073741824) → IsBroken e old.reads new.reads old.writes new.writes → (e ≡ Read) ⊎ (e ≡ endings.Device) → length script < 1073741824
+    short script read broken (inl is) = read is
+    short script read broken (inr is) = absurd (subst (λ e. IsBroken e old.reads new.reads old.writes new.writes) is broken)
+
+    by_source : (e ≡ Read) ⊎ (e ≡ Script) → (e ≡ Read) ⊎ (e ≡ Script) ⊎ (e ≡ Write)
+    by_source (inl is) = inl is
+    by_source (inr is) = inr (inl is)
 
 -- The script was performed, and then host and device were brought to rest, or not; and the image was not stored.
 pub halts-unstored : (from to : List ℕ) (e : Ending) (host after : HostState) (opened ran : Device) (old new : World) → IsReady from old.held host old.device opened
-    → Performs host after (Ok tt) old.left new.left old.written new.written opened ran → GoesToRest ran.panel new.device.panel → ((e ≡ Read) ⊎ (e ≡ Script) → ⊥) → IsCaused e old new
+    → Performs host after (Ok tt) old.left new.left old.written new.written opened ran → GoesToRest ran.panel new.device.panel → ((e ≡ Read) ⊎ (e ≡ Script) → ⊥)
+    → (e ≡ Write → (end : Machine) → Stands after ran end → ComesToRest end new.device) → IsCaused e old new
     → (new.images.replaces ≡ old.images.replaces) ⊎ (new.images.replaces ≡ raised old.images.replaces) → new.images.fetches ≡ raised old.images.fetches
     → HoldsOn to old.held new.held old.images new.images → Halts from to e old new
-halts-unstored from to e host after opened ran old new ready performs rests not_source caused replaces fetches holds =
+halts-unstored from to e host after opened ran old new ready performs rests not_source at_rest caused replaces fetches holds =
     let says = performs.says ready.mounted.begin ready.mounted.stands in
     let through : IsThrough says.said says.part says.others new.left = record { none_left = says.outcome.none_left; all = says.outcome.all; ended = says.outcome.ended } in
     record {
@@ -123,6 +136,10 @@ halts-unstored from to e host after opened ran old new ready performs rests not_
       run = is_run-opened ready.lines old.device.panel says.lines says.said ready.mounted.begin says.end ready.mounted.begins says.run;
       front = says.front;
       answered = λ by. absurd (not_source by);
+      long = λ is. absurd (not_source (inr is));
+      short = λ _. says.outcome.short;
+      stands = λ by. absurd (not_source by);
+      rests = λ is. inr (through, at_rest is says.end says.outcome.stands);
       wrote = says.wrote;
       tells = inr (
         tells_first-after raised says.said says.end old.device.panel opened.panel new.device.panel ready.mounted.tells (record {

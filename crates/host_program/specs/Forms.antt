@@ -11,9 +11,9 @@ use Rattle.image_file.specs.Text.{fresh_snapshot}
 use Rattle.line_device.specs.declared.line.LineState.{LineState}
 use Rattle.machine_model.specs.Performing.{perform}
 use Rattle.machine_model.specs.Unarmed.{ArmNothing}
-use Rattle.machine_host.specs.Costs.{Opens}
 use Rattle.machine_host.specs.Machine.{Machine, bad_of}
 use Rattle.machine_host.specs.Run.{Transcript, followed_by}
+use Rattle.machine_host.specs.Stands.{DeviceStands}
 use Rattle.machine_host.specs.Telling.{Tells}
 use Rattle.recovery.specs.Findings.{first_finding}
 use Rattle.reply_text.specs.Answer.{reply_text}
@@ -25,7 +25,7 @@ use Rattle.program_base.specs.Ending.{ending_text, numbered_line, status}
 use Rattle.program_base.specs.Opening.{CountsOpening, FailsToOpen, IsHeld, opened, opening}
 use Rattle.host_program.specs.Storing.{Holds, HoldsOn, IsStored}
 use Rattle.program_base.specs.Writing.{IsFront, WritesFront, WritesLine}
-use Rattle.host_program.specs.Whole.{IsAnswered, IsRun, Ran, TellsFirst, bytes_of}
+use Rattle.host_program.specs.Whole.{ComesToRest, IsAnswered, IsRun, Ran, TellsFirst, bytes_of}
 use Rattle.program_base.specs.World.{LeavesScript, World}
 use Rattle.program_base.specs.declared.ending.Ending.{Ending}
 use Rattle.program_base.specs.declared.ending.Ending.TheVariants.{Usage, Image, Layout, Meta, Read, Write, Memory, Script}
@@ -148,6 +148,8 @@ pub record IsThrough (said : Transcript) (part : List ℕ) (others : List (List 
 -- A run came to no end after the image was opened: what was written is how the text of a run of the device begins, over some
 -- first lines of what was read, none of them cut short: the last one may lack its newline only at the source's end. Where it ended
 -- by the source, these are all whole lines, and all of their text was written. It was settled or stored only after the whole script.
+-- At `error script` 2^30 bytes of script were taken, at `error read` and `error device` fewer. The device stands for the run's last
+-- state where the source or a write ended it, or for what that settles to where it is the image that was not written.
 pub record Halts (from to : List ℕ) (ending : Ending) (old new : World) : Type 0 where
   pub lines : List LineState
   pub there : IsHeld from old.held lines
@@ -165,6 +167,10 @@ pub record Halts (from to : List ℕ) (ending : Ending) (old new : World) : Type
   pub run : IsRun (opened lines) old.device.panel performed said end
   pub front : IsFront part (reply_text said.answers)
   pub answered : (ending ≡ Read) ⊎ (ending ≡ Script) → IsAnswered script performed said part
+  pub long : ending ≡ Script → 1073741824 ≤ length script
+  pub short : (ending ≡ Read) ⊎ (ending ≡ endings.Device) → length script < 1073741824
+  pub stands : (ending ≡ Read) ⊎ (ending ≡ Script) → DeviceStands new.device end
+  pub rests : ending ≡ Write → DeviceStands new.device end ⊎ (IsThrough said part others new.left × ComesToRest end new.device)
   pub wrote : Appends old.written new.written part
   pub tells : TellsFirst (λ count. count) (followed_by opening said) end old.device.panel new.device.panel
       ⊎ (TellsFirst raised (followed_by opening said) end old.device.panel new.device.panel × IsThrough said part others new.left)

@@ -13,7 +13,7 @@ use Rattle.script_text.specs.declared.next_line.NextLine.TheVariants.{End}
 use Rattle.machine_host.specs.Machine.{Machine}
 use Rattle.machine_host.specs.Run.{Transcript, Hears, Run}
 use Rattle.machine_host.specs.Telling.{Tells}
-use Rattle.machine_host.specs.Stands.{HostState, Stands}
+use Rattle.machine_host.specs.Stands.{DeviceStands, HostState, Stands}
 use Rattle.program_base.specs.declared.ending.Ending.{Ending}
 use Rattle.program_base.specs.declared.ending.Ending.TheVariants.{Usage, Image, Layout, Meta, Read, Write, Memory, Script}
 use Rattle.program_base.specs.declared.ending.Ending.TheVariants as endings
@@ -82,11 +82,14 @@ pub record IsFinished (said : Transcript) (end : Machine) (part script : List �
   pub tells : Tells said old.panel new.panel
   pub stands : Stands host new end
 
--- A run that ended early. Where that is by the source, all whole lines were performed, and all their replies written.
+-- A run that ended early. Where that is by the source, all whole lines were performed, and all their replies written; by it or by a
+-- write, the device stands for the run's last state.
 pub record IsStopped (ending : Ending) (said : Transcript) (end : Machine) (part script : List ℕ) (lines : List (List ℕ)) (old new : Device) : Type 0 where
   pub tells : TellsFirst (λ count. count) said end old.panel new.panel
   pub answered : (ending ≡ Read) ⊎ (ending ≡ Script) → IsAnswered script lines said part
   pub long : ending ≡ Script → 1073741824 ≤ length script
+  pub short : ending ≡ Read → length script < 1073741824
+  pub stands : (ending ≡ Read) ⊎ (ending ≡ Script) ⊎ (ending ≡ Write) → DeviceStands new end
 
 -- What was said over some first lines of what was read, from this state on; over all of them at Ok. None of them was cut short: the
 -- last one may lack its newline only at the source's end.

@@ -71,7 +71,7 @@ pub record ReadsOut (result : Result (Stock ℕ) Ending) (old new : Device) : Ty
   pub wrote : WritesBack old.medium new.medium
   pub outcome : MatchResult result (λ text. (end ≡ went) × AreLast old.medium text.items) (λ ending. NotReadOut ending old.panel new.panel)
 
--- They were stored, or what is held is as it was but for a failed replace.
+-- They were stored, or what is held is as it was but for a failed replace; they were read out where it was the writing that failed.
 pub record Stores (name : List ℕ) (result : Result (Unit {0}) Ending) (held_old held_new : Option Held) (counted counts : ImageCounts) (old new : Device) : Type 0 where
   pub end : Outcome
   pub sets_up : SetsUp end old.panel new.panel
@@ -82,6 +82,6 @@ pub record Stores (name : List ℕ) (result : Result (Unit {0}) Ending) (held_ol
   pub outcome : MatchResult result
       (λ _. (end ≡ went) × (counts.replaces ≡ raised counted.replaces)
       × (text : List ℕ) × AreLast old.medium text × IfSome held_new (λ look. look name ≡ Some text) × KeepsHeld (λ other. other ≢ name) held_old held_new)
-      (λ ending. (NotReadOut ending old.panel new.panel ⊎ ((ending ≡ Write) × Rose counted.replace_faults counts.replace_faults))
+      (λ ending. (NotReadOut ending old.panel new.panel ⊎ ((ending ≡ Write) × (end ≡ went) × Rose counted.replace_faults counts.replace_faults))
       × HoldsOn name held_old held_new counted counts
       × ((counts.replaces ≡ counted.replaces) ⊎ (counts.replaces ≡ raised counted.replaces)))

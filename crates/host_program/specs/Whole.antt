@@ -1,13 +1,9 @@
 -- A run of a script over an image: over which lines, with which answers, and what the device is left as.
-use Rattle.std.specs.Prelude.{◌≡◌, ◌≤◌, ◌+◌, ℕ, true, List, [], ◌∷◌, ◌++◌, length, Option, Result, Err}
-use Rattle.std.specs.Io.KnownBytes.{Appends}
-use Rattle.nvm_base.specs.Counts.{Rose, raised}
+use Rattle.std.specs.Prelude.{◌≡◌, ◌≤◌, ◌+◌, ℕ, true, List, [], ◌∷◌, ◌++◌, length}
+use Rattle.nvm_base.specs.Counts.{raised}
 use Rattle.line_device.specs.Panel.{Panel, ArmsNothing, SetsUp, Start, after_disarm, told}
 use Rattle.line_device.specs.Panel.Outcome.{went}
 use Rattle.line_device.specs.Device.{Device}
-use Rattle.host_io.specs.Writing.{WritesAll}
-use Rattle.host_io.specs.declared.sink.WriteFault.{WriteFault}
-use Rattle.host_io.specs.declared.sink.WriteFault.TheVariants.{Failed}
 use Rattle.reply_text.specs.Answer.{reply_text}
 use Rattle.script_text.specs.Action.{Action}
 use Rattle.script_text.specs.Script.{Input, inputs_of}
@@ -22,9 +18,8 @@ use Rattle.machine_host.specs.Costs.{mount_calls, mount_persists}
 use Rattle.durable.specs.Place.{Place}
 use Rattle.durable.specs.Durable.{KeepsThrough}
 use Rattle.durable.specs.Files.{FilesThrough, changes_files}
-use Rattle.program_base.specs.declared.ending.Ending.{Ending}
 use Rattle.program_base.specs.Begins.{Begins}
-use Rattle.program_base.specs.Ending.{ending_text, line}
+use Rattle.program_base.specs.Ending.{line}
 use Rattle.program_base.specs.Opening.{opening}
 
 -- The machine's run over these lines. What one of its commands made durable is there in each later state, unless one between
@@ -56,6 +51,13 @@ pub record Ran (first : Machine) (lines : List (List ℕ)) (said : Transcript) (
   pub comes : SettlesTo end.mode end starts last
   pub settled : Settled said starts old.panel new.panel
   pub stands : DeviceStands new last
+
+-- It was brought to rest: it stands for what the state settles to.
+pub record ComesToRest (end : Machine) (d : Device) : Type 0 where
+  pub starts : List Start
+  pub last : Machine
+  pub comes : SettlesTo end.mode end starts last
+  pub stands : DeviceStands d last
 
 -- the bytes of these lines, each with its newline
 abbrev pub bytes_of : List (List ℕ) → List ℕ

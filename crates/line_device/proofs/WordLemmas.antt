@@ -1,9 +1,11 @@
 -- Words and their eight bytes.
-use Rattle.std.proofs.Common.{◌≡◌, ◌⊎◌, inl, inr, ℕ, zero, suc, true, false, ◌+◌, ◌-◌, ◌*◌, ◌/◌, ◌%◌, ◌^◌, ◌<◌, ◌≤◌, List, [], ◌∷◌, length, get_or, refl, sym, ◌∙◌, ap, arith}
+use Rattle.std.proofs.Common.{◌≡◌, ◌⊎◌, inl, inr, ℕ, zero, suc, true, false, ◌+◌, ◌-◌, ◌*◌, ◌/◌, ◌%◌, ◌^◌, ◌<◌, ◌≤◌, List, [], ◌∷◌, length, take, drop, get_or, refl, sym, ◌∙◌, ap, arith}
 use Rattle.std.proofs.lemmas.Bool.{cases_lt}
 use Rattle.std.proofs.lemmas.Bool.Decides.{nat_tests}
+use Rattle.std.proofs.lemmas.List.{get_or-drop, get_or-take}
 use Rattle.std.proofs.lemmas.Nat.{le_bytes_8, from_le_bytes-to_le_bytes_8}
 use Rattle.std.specs.Int.{w64, to_le_bytes, from_le_bytes, sum_through, byte_worth, byte_at}
+use Rattle.byteorder.specs.Endian.{little_number}
 use Rattle.line_device.specs.Word.{word_from, word_at, byte_over, word_over, reaches, IsPut}
 
 -- what holds of each of eight holds of all
@@ -74,6 +76,19 @@ word_from-byte_at n small = from_le_bytes-to_le_bytes_8 n small
 pub word_at-from_le_bytes : (bytes : List ℕ) → word_at bytes 0 ≡ from_le_bytes w64 bytes
 unfolding word_from
 word_at-from_le_bytes bytes = refl
+
+-- a word is the number that its bytes spell from its offset on
+pub word_spelled : (bytes : List ℕ) (w : ℕ) → little_number 8 (drop (8 * w) bytes) ≡ word_at bytes w
+unfolding word_from
+word_spelled bytes w =
+    let at = λ (k : ℕ). get_or-drop (8 * w) bytes k 0 in
+    omega (arith, at 0, at 1, at 2, at 3, at 4, at 5, at 6, at 7)
+
+-- and so where what is read ends later
+pub word_spelled-part : (bytes : List ℕ) (w n : ℕ) → 8 ≤ n → little_number 8 (take n (drop (8 * w) bytes)) ≡ word_at bytes w
+word_spelled-part bytes w n enough =
+    let at = λ (k : ℕ) (h : k < n). get_or-take n (drop (8 * w) bytes) k 0 h in
+    omega (arith, word_spelled bytes w, at 0 (omega arith), at 1 (omega arith), at 2 (omega arith), at 3 (omega arith), at 4 (omega arith), at 5 (omega arith), at 6 (omega arith), at 7 (omega arith))
 
 pub byte_over-in : (at i old : ℕ) (bytes : List ℕ) → at ≤ i → i < at + length bytes → byte_over at bytes i old ≡ get_or bytes (i - at) 0
 unfolding byte_over

@@ -10,6 +10,7 @@ mod lines;
 mod order;
 mod plain;
 mod switches;
+mod words;
 
 pub use counts::Counts;
 pub use device::{LineDevice, Peek};
@@ -20,3 +21,4 @@ pub use lines::Lines;
 pub use order::Order;
 pub use plain::Plain;
 pub use switches::Switches;
+pub use words::{word_bytes, word_in};

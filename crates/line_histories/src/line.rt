@@ -9,7 +9,8 @@ ghost use Rattle.line_histories.specs.Log.{history_in};
 ghost use Rattle.line_histories.specs.Held.{HasHistory};
 
 use crate::log::{Stored, log_line, settle};
-use crate::words::{covers_line, touches_line, word_in};
+use crate::words::{covers_line, touches_line};
+use line_device::word_in;
 use std::alloc::{AllocError, Global};
 use std::marker::Model;
 

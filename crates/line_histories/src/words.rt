@@ -1,25 +1,9 @@
 // Words of eight bytes, the lowest byte first, and spans that meet them.
-ghost use Rattle.std.specs.Prelude.{◌≡◌, ◌+◌, ◌*◌, ◌<◌, ◌≤◌, ◌^◌, length};
-ghost use Rattle.line_device.specs.Word.{word_at, word_over, byte_over, reaches};
+ghost use Rattle.std.specs.Prelude.{◌≡◌, ◌<◌, ◌^◌};
+ghost use Rattle.line_device.specs.Word.{word_over, byte_over, reaches};
 ghost use Rattle.nvm_model.specs.Cell.{touches, covers};
 
-/// Word w of a line's bytes.
-pub fn word_in(bytes: &[u8], w: u64) -> u64
-    requires { 8 * w + 8 ≤ length bytes.now }
-    ensures { result ≡ word_at bytes.now w }
-{
-    let at = 8 * w as usize;
-    u64::from_le_bytes([
-        bytes[at],
-        bytes[at + 1],
-        bytes[at + 2],
-        bytes[at + 3],
-        bytes[at + 4],
-        bytes[at + 5],
-        bytes[at + 6],
-        bytes[at + 7],
-    ])
-}
+use line_device::{word_bytes, word_in};
 
 // The byte at a place once bytes are put at an offset.
 #[tactic(auto, unfolding(line_device::specs::Word::byte_over))]
@@ -39,8 +23,8 @@ pub fn put_word(at: u64, bytes: &[u8], w: u64, old: u64) -> u64
     ensures { result ≡ word_over at bytes.now w old }
 {
     let place = 8 * w;
-    let [a, b, c, d, e, f, g, h] = old.to_le_bytes();
-    u64::from_le_bytes([
+    let [a, b, c, d, e, f, g, h] = word_bytes(old);
+    let new = [
         put_byte(at, bytes, place, a),
         put_byte(at, bytes, place + 1, b),
         put_byte(at, bytes, place + 2, c),
@@ -49,7 +33,8 @@ pub fn put_word(at: u64, bytes: &[u8], w: u64, old: u64) -> u64
         put_byte(at, bytes, place + 5, f),
         put_byte(at, bytes, place + 6, g),
         put_byte(at, bytes, place + 7, h),
-    ])
+    ];
+    word_in(&new, 0)
 }
 
 /// The span reaches word w of the storage.

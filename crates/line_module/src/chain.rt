@@ -1,9 +1,9 @@
 ghost use Rattle.std.specs.Prelude.{◌≡◌};
 ghost use Rattle.std.specs.Vec.{vec_len};
 
-use crate::bytes::word_in;
 use crate::survivor;
 use arrayvec::ArrayVec;
+use line_device::word_in;
 use std::alloc::{AllocError, Global};
 
 /// How many values of a word a chain has room for, beside the durable one.

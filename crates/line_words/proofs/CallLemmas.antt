@@ -1,29 +1,14 @@
 -- A word stored or read through the bytes of its line.
-use Rattle.std.proofs.Common.{◌≡◌, ℕ, ◌*◌, ◌/◌, ◌%◌, ◌^◌, ◌<◌, ◌≤◌, List, [], ◌∷◌, ◌++◌, take, drop, if◌then◌else◌, refl, sym, ◌∙◌, ap, subst, arith, inl, inr}
+use Rattle.std.proofs.Common.{◌≡◌, ℕ, ◌*◌, ◌/◌, ◌%◌, ◌^◌, ◌<◌, List, [], ◌∷◌, ◌++◌, if◌then◌else◌, refl, sym, ◌∙◌, ap, subst, arith, inl, inr}
 use Rattle.std.proofs.lemmas.Bool.{cases_eq}
-use Rattle.std.proofs.lemmas.List.{get_or-drop, get_or-take}
 use Rattle.std.specs.Int.{w64, to_le_bytes}
-use Rattle.line_device.specs.Word.{word_from, word_at, word_over}
+use Rattle.line_device.specs.Word.{word_over}
 use Rattle.line_device.specs.History.{newest, WordWritesBack}
 use Rattle.line_device.specs.Medium.{Medium, WritesBack, stored, on_line, word_stored}
 use Rattle.line_device.proofs.WriteBackLemmas.{on_line-in, on_line-out}
 use Rattle.line_device.proofs.WordLemmas.{word_over-word, reaches-word, reaches-other_word}
-use Rattle.byteorder.specs.Endian.{little_number}
 use Rattle.line_words.specs.Words.{with_word}
 use Rattle.line_words.proofs.FrameLemmas.{with_word-in, with_word-out}
-
--- a word is the number that its bytes spell from its offset on
-pub word_spelled : (bytes : List ℕ) (w : ℕ) → little_number 8 (drop (8 * w) bytes) ≡ word_at bytes w
-unfolding word_from
-word_spelled bytes w =
-    let at = λ (k : ℕ). get_or-drop (8 * w) bytes k 0 in
-    omega (arith, at 0, at 1, at 2, at 3, at 4, at 5, at 6, at 7)
-
--- and so where what is read ends later
-pub word_spelled-part : (bytes : List ℕ) (w n : ℕ) → 8 ≤ n → little_number 8 (take n (drop (8 * w) bytes)) ≡ word_at bytes w
-word_spelled-part bytes w n enough =
-    let at = λ (k : ℕ) (h : k < n). get_or-take n (drop (8 * w) bytes) k 0 h in
-    omega (arith, word_spelled bytes w, at 0 (omega arith), at 1 (omega arith), at 2 (omega arith), at 3 (omega arith), at 4 (omega arith), at 5 (omega arith), at 6 (omega arith), at 7 (omega arith))
 
 -- the eight bytes of a word, stored at its offset, are one more value of that word alone
 stored-word : (m : Medium) (place value p : ℕ) → value < 2 ^ 64 → (stored m (place / 8) (8 * (place % 8)) (to_le_bytes w64 value)).history p ≡ (with_word m place value).history p

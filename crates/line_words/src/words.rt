@@ -1,5 +1,5 @@
 // The words of lines that are not bad. Each call here is one call of the device.
-ghost use Rattle.std.specs.Prelude.{◌≡◌, ◌+◌, ◌*◌, ◌/◌, ◌<◌, ◌≤◌, ℕ, IsTrue, IfOk, MatchResult, length, slice_index};
+ghost use Rattle.std.specs.Prelude.{◌≡◌, ◌+◌, ◌*◌, ◌/◌, ◌<◌, ℕ, IsTrue, IfOk, MatchResult, length, slice_index};
 ghost use Rattle.line_device.specs.Word.{word_at};
 ghost use Rattle.line_device.specs.Medium.{WritesBack, IsHealthy, last_image};
 ghost use Rattle.line_device.specs.Panel.{Runs};
@@ -9,16 +9,8 @@ ghost use Rattle.line_words.specs.Ending.{ended};
 use crate::Interruption;
 use crate::interruption::stop_of;
 use byteorder::{ByteOrder, LittleEndian};
-use line_device::Lines;
+use line_device::{Lines, word_bytes, word_in};
 use nvm_base::LineNo;
-
-// Word w of a line's bytes.
-fn word_in(bytes: &[u8], w: u64) -> u64
-    requires { 8 * w + 8 ≤ length bytes.now }
-    ensures { result ≡ word_at bytes.now w }
-{
-    LittleEndian::read_u64(&bytes[8 * w as usize..])
-}
 
 // All words of a line's bytes.
 fn words_in(bytes: &[u8]) -> [u64; 8]
@@ -69,7 +61,7 @@ pub fn store_word<L: Lines>(dev: &mut L, place: u64, value: u64) -> Result<(), I
         (λ _. WritesBack (L.state dev.old).medium (L.state dev.new).medium) }
     ensures runs { Runs 1 0 (ended result) (L.state dev.old).panel (L.state dev.new).panel }
 {
-    match dev.store(LineNo(place / 8), 8 * (place % 8), &value.to_le_bytes()) {
+    match dev.store(LineNo(place / 8), 8 * (place % 8), &word_bytes(value)) {
         Ok(()) => Ok(()),
         Err(fault) => Err(stop_of(fault, place / 8)),
     }

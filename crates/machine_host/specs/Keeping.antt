@@ -9,21 +9,36 @@ use Rattle.recovery.specs.Findings.{geometry_told}
 use Rattle.recovery.specs.Mounting.{IsOfLogs}
 use Rattle.scrub.specs.Others.{WritesBackBut}
 use Rattle.script_text.specs.Action.{Action}
-use Rattle.script_text.specs.Action.Action.{BRead, BExists, VLoad, VRanges, VExists, ListFiles, FRead, Map, Unmap, Load, NextEvent, CheckFile, PoisonBlock, PoisonVolume, PoisonFile, PoisonMeta, WeakenFile, WeakenVolume, Cut, CutIn, FailIn, Restart, Recover, Attr, Evict}
+use Rattle.script_text.specs.Action.Action.{BRead, BWrite, BDiscard, BDiscardIf, BExists, BScar, BAtomic, BMulti, VLoad, VStore, VSync, VRanges, VPSync, VDiscard, VDiscardIf, VExists, Create, Delete, Rename, Resize, ListFiles, FRead, FWrite, FAtomic, FMulti, FDiscard, FSync, Map, Unmap, Load, Store, Sync, Flush, FlushVerify, DeepFlush, NextEvent, CheckFile, PoisonBlock, PoisonVolume, PoisonFile, PoisonMeta, WeakenFile, WeakenVolume, ClearFile, ClearVolume, Cut, CutIn, FailIn, Restart, Recover, Attr, Evict}
 use Rattle.reply_text.specs.Answer.{Answer}
-use Rattle.reply_text.specs.Answer.Answer.{Scarred, PoisonBlock as BadBlock, PoisonVolume as BadVolume, PoisonFile as BadFile, Refused, RefusedMeta}
+use Rattle.reply_text.specs.Answer.Answer.{Done, DoneBad, Bytes, Ranges, Files, Yes, No, Handle, Happened, NoEvent, BadLines, Attribute, Scarred, PoisonBlock as BadBlock, PoisonVolume as BadVolume, PoisonFile as BadFile, VerifyFile, DeviceFailed, PowerLost, Stopped, Refused, RefusedMeta}
 use Rattle.machine_host.specs.Stands.{HostState}
 use Rattle.machine_host.specs.Faults.{IsRoomier}
 
 -- whether an answer refuses its command; `refused device` does not, which tells of a failure
 abbrev pub is_refusal : Answer → Bool
+is_refusal Done = false
+is_refusal (DoneBad n) = false
+is_refusal (Bytes bytes) = false
+is_refusal (Ranges ranges) = false
+is_refusal (Files files) = false
+is_refusal Yes = false
+is_refusal No = false
+is_refusal (Handle handle) = false
+is_refusal (Happened event) = false
+is_refusal NoEvent = false
+is_refusal (BadLines offsets) = false
+is_refusal (Attribute n) = false
 is_refusal (Scarred block) = true
 is_refusal (BadBlock block line) = true
 is_refusal (BadVolume offset) = true
 is_refusal (BadFile name offset) = true
+is_refusal (VerifyFile name offset) = false
+is_refusal DeviceFailed = false
+is_refusal PowerLost = false
+is_refusal (Stopped line) = false
 is_refusal (Refused why) = true
 is_refusal (RefusedMeta line) = true
-is_refusal _ = false
 
 -- which lines of a device a command that is not refused may change, more than by a write-back: none, one, those of the logs, first
 -- all by what survives a restart, or any
@@ -36,15 +51,40 @@ pub data Reach : Type 0 where
 
 abbrev pub reach : Action → Reach
 reach (BRead block count) = NoLine
+reach (BWrite block bytes) = AnyLine
+reach (BDiscard block count) = AnyLine
+reach (BDiscardIf block count) = AnyLine
 reach (BExists block) = NoLine
+reach (BScar ranges) = AnyLine
+reach (BAtomic block bytes) = AnyLine
+reach (BMulti ranges bytes) = AnyLine
 reach (VLoad offset len) = NoLine
+reach (VStore offset bytes) = AnyLine
+reach (VSync offset len) = AnyLine
 reach VRanges = NoLine
+reach (VPSync address len) = AnyLine
+reach (VDiscard page count) = AnyLine
+reach (VDiscardIf page count) = AnyLine
 reach (VExists page) = NoLine
+reach (Create name pages) = AnyLine
+reach (Delete name) = AnyLine
+reach (Rename name to) = AnyLine
+reach (Resize name pages) = AnyLine
 reach ListFiles = NoLine
 reach (FRead name offset len) = NoLine
+reach (FWrite name offset bytes) = AnyLine
+reach (FAtomic name offset bytes) = AnyLine
+reach (FMulti name ranges bytes) = AnyLine
+reach (FDiscard name page count) = AnyLine
+reach (FSync name) = AnyLine
 reach (Map name span kind) = NoLine
 reach (Unmap handle) = NoLine
 reach (Load handle offset len) = NoLine
+reach (Store handle offset bytes) = AnyLine
+reach (Sync handle offset len) = AnyLine
+reach (Flush handle spans) = AnyLine
+reach (FlushVerify handle spans) = AnyLine
+reach (DeepFlush handle spans) = AnyLine
 reach NextEvent = NoLine
 reach (CheckFile name offset len) = NoLine
 reach (PoisonBlock block line) = OneLine
@@ -53,6 +93,8 @@ reach (PoisonFile name offset) = OneLine
 reach (PoisonMeta line) = OneLine
 reach (WeakenFile name offset) = OneLine
 reach (WeakenVolume offset) = OneLine
+reach (ClearFile name offset) = AnyLine
+reach (ClearVolume offset) = AnyLine
 reach Cut = NoLine
 reach (CutIn calls) = NoLine
 reach (FailIn calls) = NoLine
@@ -60,7 +102,6 @@ reach (Restart choice) = Surviving choice
 reach Recover = LogLines
 reach (Attr name) = NoLine
 reach (Evict lines) = NoLine
-reach _ = AnyLine
 
 -- The power came back, and from there the mount changed its logs alone.
 pub record CameBack (choice : Choice) (old new : Device) : Type 0 where

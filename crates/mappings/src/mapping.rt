@@ -2,12 +2,13 @@
 ghost use Rattle.std.specs.Prelude.{◌≡◌};
 ghost use Rattle.std.specs.Borrow.{sem};
 ghost use Rattle.std.specs.Str.{bytes_eq};
+ghost use Rattle.nvm_base.specs.Units.{overlap};
 ghost use Rattle.mappings.specs.KeptLends.{lends_bytes};
 ghost use Rattle.mappings.specs.Object.{IsInReach};
 ghost use Rattle.mappings.specs.Table.{kept_shows};
 
 use crate::MapInfo;
-use nvm_base::{Bytes, Kind, Name, Span, overlaps};
+use nvm_base::{Bytes, Kind, Name, Span};
 
 /// A mapping, but for its handle.
 #[derive(Drop)]
@@ -27,10 +28,9 @@ impl Mapping {
     /// Whether it is shared and has a byte of that span.
     pub fn shows(&self, name: &Name, span: Span) -> bool
         requires own { IsInReach self.now.info.span }
-        requires span { IsInReach span }
         ensures { result ≡ kept_shows name.now span self.now }
     {
-        self.info.kind == Kind::Shared && self.is_of(name) && overlaps(self.info.span, span)
+        self.info.kind == Kind::Shared && self.is_of(name) && meets(self.info.span, span)
     }
 
     pub fn bytes_mut(&mut self) -> &mut [u8]
@@ -39,4 +39,12 @@ impl Mapping {
     {
         self.copy.as_mut_slice()
     }
+}
+
+// Whether each begins before the other ends; the second one may end anywhere.
+fn meets(own: Span, span: Span) -> bool
+    requires own { IsInReach own }
+    ensures { result ≡ overlap own span }
+{
+    own.start < span.start.saturating_add(span.len) && span.start < own.start + own.len
 }

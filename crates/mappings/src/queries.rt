@@ -40,9 +40,8 @@ impl Mappings {
         is_any_of(&self.maps, name)
     }
 
-    /// Whether a shared mapping of a file has a byte of that span.
+    /// Whether a shared mapping of a file has a byte of that span, which may end anywhere. An empty one counts where it lies inside.
     pub fn touches(&self, name: &Name, span: Span) -> bool
-        requires { IsInReach span }
         ensures { result ≡ is_shown name.now span self.now.mappings }
     {
         is_any_shown(&self.maps, name, span)
@@ -56,8 +55,7 @@ fn is_any_of(maps: &IndexMap<u64, Mapping>, name: &Name) -> bool
 }
 
 fn is_any_shown(maps: &IndexMap<u64, Mapping>, name: &Name, span: Span) -> bool
-    requires own { All (λ mapping. IsInReach mapping.info.span) (values maps.now) }
-    requires span { IsInReach span }
+    requires { All (λ mapping. IsInReach mapping.info.span) (values maps.now) }
     ensures { result ≡ list_any (λ mapping. kept_shows name.now span mapping) (values maps.now) }
 {
     maps.values().any(|mapping| mapping.shows(name, span))

@@ -1,8 +1,12 @@
 pub mod AppendLemmas
+pub mod DecimalLemmas
 pub mod FirstLemmas
 pub mod NameLemmas
 pub mod NumberLemmas
+pub mod PrintedLemmas
 pub mod ReadingLemmas
 pub mod RunLemmas
+pub mod RunTextLemmas
 pub mod SpellLemmas
+pub mod SplitLemmas
 pub mod UnitLemmas

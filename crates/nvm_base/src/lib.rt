@@ -4,6 +4,7 @@
 mod buffer;
 mod counts;
 mod files;
+mod laws;
 mod names;
 mod numbers;
 mod printing;
@@ -14,6 +15,7 @@ mod units;
 pub use buffer::{Buffer, Bytes, Spans, Words};
 pub use counts::raise;
 pub use files::{FileEntry, FileList, Kind};
+pub use laws::what_is_printed_is_read_back;
 pub use names::{NAME, Name};
 pub use numbers::{print_number, read_number};
 pub use printing::print_bytes;

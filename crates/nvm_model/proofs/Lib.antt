@@ -1,5 +1,6 @@
 pub mod RangeLemmas
 pub mod NumberedLemmas
+pub mod MixedLemmas
 pub mod PageLemmas
 pub mod PutLemmas
 pub mod StandLemmas

@@ -15,7 +15,7 @@ use Rattle.nvm_model.specs.Numbered.{is_among, list_from}
 use Rattle.nvm_model.specs.Page.{Page, byte_in, cell_of, first_bad_line, is_bad_cell, look}
 use Rattle.nvm_model.proofs.NumberedLemmas.{slice_get-list_from}
 use Rattle.page_lines.proofs.LoopLemmas.{touches-within, within-touches}
-use Rattle.pm_volume.proofs.BadLemmas.{none_touched}
+use Rattle.page_lines.proofs.SearchLemmas.{none_touched}
 use Rattle.reply_text.specs.declared.reply.Why.{Why}
 use Rattle.durable.specs.Naming.{IsLowestBad}
 use Rattle.durable.proofs.LineLemmas.{byte_at-zero}

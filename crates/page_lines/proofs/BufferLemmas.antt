@@ -1,7 +1,7 @@
 -- A buffer that is filled from its front on.
 use Rattle.std.proofs.Common.{◌≡◌, ◌+◌, ℕ, List, ◌++◌, length, take, drop, refl, sym, ap, ap₂, ◌∙◌, subst, arith}
 use borrow.Rule.Slice.PartMut.{put_mid}
-use Rattle.std.proofs.lemmas.List.{append_assoc, drop-drop, take-append-le, drop-append-le, take_all, drop_all}
+use Rattle.std.proofs.lemmas.List.{append_assoc, drop-drop, take-append-le, drop-append-le, take-append-drop, take_all, drop_all}
 use Rattle.nvm_model.specs.Numbered.{list_from}
 use Rattle.nvm_model.proofs.NumberedLemmas.{list_from-append, length-list_from}
 
@@ -11,6 +11,10 @@ IsFilled f start n s a = a ≡ list_from f start n ++ drop n s
 
 pub filled_none : (f : ℕ → ℕ) (start n : ℕ) (s : List ℕ) → n ≡ 0 → IsFilled f start n s s
 filled_none f start n s none = subst (λ k. IsFilled f start k s s) (sym none) refl
+
+-- a piece that is as before
+pub put_back : (at k : ℕ) (s piece : List ℕ) → piece ≡ take k (drop at s) → put_mid at k s piece ≡ s
+put_back at k s piece same = ap (put_mid at k s) same ∙ ap (λ xs. take at s ++ xs) (take-append-drop k (drop at s)) ∙ take-append-drop at s
 
 -- a piece more
 pub filled_more : (f : ℕ → ℕ) (start n at from len size more : ℕ) (s a piece : List ℕ) → IsFilled f start n s a → piece ≡ list_from f from len

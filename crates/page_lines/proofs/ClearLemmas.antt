@@ -1,17 +1,22 @@
 -- Lines made zeros.
-use Rattle.std.proofs.Common.{◌≡◌, ℕ, ◌+◌, ◌<◌, ◌≤◌, Option, Some, Result, Ok, Err, MatchResult, OnOk, false, [], ◌∷◌, refl, subst, inl, inr, arith}
+use Rattle.std.proofs.Common.{◌≡◌, ◌⊎◌, ℕ, ◌+◌, ◌<◌, ◌≤◌, Option, Some, Result, Ok, Err, MatchResult, OnErr, OnOk, false, [], ◌∷◌, refl, subst, inl, inr, arith}
 use Rattle.std.proofs.lemmas.Bool.{cases_lt}
 use Rattle.line_device.specs.Medium.{Medium, WritesBack, cleared}
-use Rattle.nvm_model.specs.Cell.{CellStands, zero_cell}
+use Rattle.nvm_model.specs.Cell.{Cell, CellStands, zero_cell}
 use Rattle.nvm_model.proofs.MediaLemmas.{cell_stands-zeros}
 use Rattle.page_lines.specs.Placed.{AreApart}
-use Rattle.page_lines.specs.Turns.{WritesBackOthers}
+use Rattle.page_lines.specs.Turns.{MayClear, MayTurn, WritesBackOthers}
 use Rattle.page_lines.proofs.OthersLemmas.{others-write_back}
-use Rattle.page_lines.proofs.TurnLemmas.{stands-others, others-renewed}
+use Rattle.page_lines.proofs.LoopLemmas.{IsReached, not_reached}
+use Rattle.page_lines.proofs.TurnLemmas.{stands-others, stands-write_back, others-renewed}
 
 pub ok_cleared : {A F : Type 0} (r : Result A F) (m new : Medium) (line : ℕ) → MatchResult r (λ _. WritesBack (cleared m line) new) (λ _. WritesBack m new) → OnOk r (CellStands new line zero_cell)
 ok_cleared (Ok x) m new line h = cell_stands-zeros m new line h
 ok_cleared (Err e) m new line h = tt
+
+pub err_cleared : {A F : Type 0} (r : Result A F) (m new : Medium) (line : ℕ) → MatchResult r (λ _. WritesBack (cleared m line) new) (λ _. WritesBack m new) → OnErr r (WritesBack m new)
+err_cleared (Ok x) m new line h = tt
+err_cleared (Err e) m new line h = h
 
 pub others-clear : {A F : Type 0} (r : Result A F) (m new : Medium) (line : ℕ) → MatchResult r (λ _. WritesBack (cleared m line) new) (λ _. WritesBack m new) → WritesBackOthers (λ n. n ≡ line) m new
 others-clear (Ok x) m new line h = others-renewed m new line false (λ _. 0 ∷ []) (λ _. refl) h
@@ -33,3 +38,19 @@ zeros-next place first limit count a b apart zeros here others n line from below
           let same : n ≡ limit = omega (arith, below, now) in
           here line (subst (λ i. place i ≡ Some line) same at)
     ]
+
+-- where a clear is stopped, the lines before it are zeros, and the others as they were
+pub may_clear-stopped : (place : ℕ → Option ℕ) (first limit count : ℕ) (a b c : Medium) → AreApart place count → AreZeros place first limit b
+    → WritesBackOthers (IsReached place first limit) a b → WritesBack b c → (n line : ℕ) → place n ≡ Some line → MayTurn MayClear line a c
+may_clear-stopped place first limit count a b c apart zeros others w n line at = by_place (cases_lt n first) (cases_lt n limit)
+  where
+    untouched : (first ≤ n → n < limit → ⊥) → MayTurn MayClear line a c
+    untouched out = record {
+      leaves = λ cell stands.
+          (cell, inl refl, stands-write_back b c line cell w (stands-others (IsReached place first limit) a b line cell others (not_reached place first limit count n line apart at out) stands));
+    }
+
+    by_place : (n < first) ⊎ (first ≤ n) → (n < limit) ⊎ (limit ≤ n) → MayTurn MayClear line a c
+    by_place (inl before) _ = untouched (λ from below. omega (arith, before, from))
+    by_place (inr from) (inr past) = untouched (λ _ below. omega (arith, below, past))
+    by_place (inr from) (inl below) = record { leaves = λ cell stands. (zero_cell, inr refl, stands-write_back b c line zero_cell w (zeros n line from below at)) }

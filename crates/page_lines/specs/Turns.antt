@@ -1,5 +1,5 @@
 -- What becomes of single lines of a device, as cells.
-use Rattle.std.specs.Prelude.{◌≡◌, ◌/◌, ℕ, false}
+use Rattle.std.specs.Prelude.{◌≡◌, ◌⊎◌, ◌/◌, ℕ, false}
 use Rattle.line_device.specs.History.{WordWritesBack}
 use Rattle.line_device.specs.Medium.{Medium}
 use Rattle.nvm_model.specs.Cell.{Cell, CellStands, zero_cell}
@@ -12,6 +12,10 @@ pub record Turns (f : Cell → Cell) (line : ℕ) (old new : Medium) : Type 0 wh
 -- what the line stood for became one of those that R leaves of it
 pub record MayTurn (R : Cell → Cell → Type 0) (line : ℕ) (old new : Medium) : Type 0 where
   pub leaves : (cell : Cell) → CellStands old line cell → (left : Cell) × R cell left × CellStands new line left
+
+-- what may be left of a line that is cleared: it is zeros, or as before
+abbrev pub MayClear : Cell → Cell → Type 0
+MayClear old new = (new ≡ old) ⊎ (new ≡ zero_cell)
 
 -- The marks of all lines but these stay, and their words are only written back. No line becomes weak, and a line becomes bad
 -- only where it was weak.

@@ -1,10 +1,11 @@
 // Lines made zeros, whatever they were.
-ghost use Rattle.std.specs.Prelude.{◌≡◌, ◌+◌, ◌<◌, ◌≤◌, ◌^◌, ℕ, Some, IsTrue, OnOk};
+ghost use Rattle.std.specs.Prelude.{◌≡◌, ◌+◌, ◌<◌, ◌≤◌, ◌^◌, ℕ, false, Some, IsTrue, OnErr, OnOk};
+ghost use Rattle.line_device.specs.Medium.{WritesBack};
 ghost use Rattle.line_device.specs.Panel.{Runs};
 ghost use Rattle.line_words.specs.Ending.{ended};
 ghost use Rattle.nvm_model.specs.Cell.{CellStands, zero_cell};
 ghost use Rattle.page_lines.specs.Placed.{AreApart, IsPlacedAmong, one_there, there_among};
-ghost use Rattle.page_lines.specs.Turns.{WritesBackOthers};
+ghost use Rattle.page_lines.specs.Turns.{MayClear, MayTurn, WritesBackOthers};
 
 use crate::Places;
 use line_device::Lines;
@@ -23,6 +24,9 @@ pub fn clear_lines<L: Lines, P: Places>(
     requires on { IsTrue (L.state dev.old).panel.power }
     ensures ok { OnOk result ((n line : ℕ) → first ≤ n → n < first + count → P.place places.now n ≡ Some line
         → CellStands (L.state dev.new).medium line zero_cell) }
+    ensures err { OnErr result ((n line : ℕ) → P.place places.now n ≡ Some line
+        → MayTurn MayClear line (L.state dev.old).medium (L.state dev.new).medium) }
+    ensures good { (line : ℕ) → (L.state dev.old).medium.is_bad line ≡ false → (L.state dev.new).medium.is_bad line ≡ false }
     ensures outside { WritesBackOthers (IsPlacedAmong (P.place places.now) first count)
         (L.state dev.old).medium (L.state dev.new).medium }
     ensures runs { Runs (there_among (P.place places.now) first count) 0 (ended result)
@@ -44,6 +48,8 @@ fn clear_at<L: Lines, P: Places>(dev: &mut L, places: &P, n: u64) -> Result<(), 
     requires on { IsTrue (L.state dev.old).panel.power }
     ensures ok { OnOk result ((line : ℕ) → P.place places.now n ≡ Some line
         → CellStands (L.state dev.new).medium line zero_cell) }
+    ensures err { OnErr result (WritesBack (L.state dev.old).medium (L.state dev.new).medium) }
+    ensures good { (line : ℕ) → (L.state dev.old).medium.is_bad line ≡ false → (L.state dev.new).medium.is_bad line ≡ false }
     ensures outside { WritesBackOthers (λ line. P.place places.now n ≡ Some line)
         (L.state dev.old).medium (L.state dev.new).medium }
     ensures runs { Runs (one_there (P.place places.now n)) 0 (ended result)

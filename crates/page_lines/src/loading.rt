@@ -1,11 +1,11 @@
 // The bytes of lines as last stored.
-ghost use Rattle.std.specs.Prelude.{◌≡◌, ◌+◌, ◌*◌, ◌/◌, ◌<◌, ◌≤◌, ◌^◌, ◌%◌, ℕ, true, false, Some, IsTrue, OnOk, length};
+ghost use Rattle.std.specs.Prelude.{◌≡◌, ◌+◌, ◌*◌, ◌/◌, ◌<◌, ◌≤◌, ◌^◌, ◌%◌, ℕ, true, false, Some, IsTrue, OnErr, OnOk, length};
 ghost use Rattle.line_device.specs.Medium.{WritesBack, IsHealthy};
 ghost use Rattle.line_device.specs.Panel.{Runs};
 ghost use Rattle.line_words.specs.Ending.{ended};
 ghost use Rattle.nvm_base.specs.declared.units.Span.{Span};
 ghost use Rattle.nvm_model.specs.Cell.{touches};
-ghost use Rattle.nvm_model.specs.Numbered.{list_from};
+ghost use Rattle.nvm_model.specs.Numbered.{AreMixed, list_from};
 ghost use Rattle.page_lines.specs.Placed.{AreApart, one_there, there_in};
 ghost use Rattle.page_lines.specs.Shown.{byte_in_line, part_of, placed_byte};
 ghost use Rattle.nvm_model.specs.Lines.{shown_byte};
@@ -30,6 +30,8 @@ pub fn load_lines<L: Lines, P: Places>(
     requires on { IsTrue (L.state dev.old).panel.power }
     ensures ok { OnOk result (out.new
         ≡ list_from (placed_byte (P.place places.now) (L.state dev.old).medium) offset (length out.old)) }
+    ensures err { OnErr result (AreMixed ℕ out.old
+        (list_from (placed_byte (P.place places.now) (L.state dev.old).medium) offset (length out.old)) out.new) }
     ensures lines { WritesBack (L.state dev.old).medium (L.state dev.new).medium }
     ensures runs { Runs (there_in (P.place places.now) (record { start = offset; len = length out.old })) 0 (ended result)
         (L.state dev.old).panel (L.state dev.new).panel }
@@ -83,6 +85,7 @@ fn load_at<L: Lines, P: Places>(
     requires on { IsTrue (L.state dev.old).panel.power }
     ensures ok { OnOk result (out.new
         ≡ list_from (placed_byte (P.place places.now) (L.state dev.old).medium) offset (length out.old)) }
+    ensures err { OnErr result (out.new ≡ out.old) }
     ensures lines { WritesBack (L.state dev.old).medium (L.state dev.new).medium }
     ensures runs { Runs (one_there (P.place places.now (offset / 64))) 0 (ended result) (L.state dev.old).panel (L.state dev.new).panel }
 {
@@ -106,6 +109,7 @@ fn load_part<L: Lines>(
     requires healthy { IsHealthy (L.state dev.old).medium line }
     requires on { IsTrue (L.state dev.old).panel.power }
     ensures ok { OnOk result (out.new ≡ list_from (shown_byte (L.state dev.old).medium) (64 * line + start) (length out.old)) }
+    ensures err { OnErr result (out.new ≡ out.old) }
     ensures lines { WritesBack (L.state dev.old).medium (L.state dev.new).medium }
     ensures runs { Runs 1 0 (ended result) (L.state dev.old).panel (L.state dev.new).panel }
 {

@@ -19,7 +19,8 @@ use Rattle.pm_volume.specs.Images.{EachReadsPages, ReadsPages}
 use Rattle.pm_volume.specs.Object.{VolumeHolds, VolumeServes, VolumeState}
 use Rattle.pm_volume.specs.Presence.{presence_words, switched}
 use Rattle.pm_volume.proofs.FillLemmas.{holds-others, others-meta, there_not_meta}
-use Rattle.pm_volume.proofs.PresenceLemmas.{among_bounds, among_from, discarded_presence, not_among, same_tests}
+use Rattle.pm_volume.proofs.PresenceLemmas.{discarded_presence}
+use Rattle.nvm_model.proofs.TouchedPageLemmas.{among_bounds, among_from, not_among, same_tests}
 use Rattle.pm_volume.proofs.TurnLemmas.{length-pages}
 
 -- lines that are left stand on

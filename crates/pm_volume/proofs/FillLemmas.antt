@@ -31,7 +31,8 @@ use Rattle.pm_volume.proofs.BadLemmas.{cell_there, page_there}
 use Rattle.pm_volume.proofs.AreaLemmas.{area_in_metadata}
 use Rattle.pm_volume.proofs.MarkLemmas.{marks-others, marks-outside, marks-trans}
 use Rattle.pm_volume.proofs.PlaceLemmas.{in_volume, line_is_volume, lines_differ, place_of, placed, placed_line, volume_behind_metadata}
-use Rattle.pm_volume.proofs.PresenceLemmas.{among_bounds, filled_presence, touches_among}
+use Rattle.pm_volume.proofs.PresenceLemmas.{filled_presence}
+use Rattle.nvm_model.proofs.TouchedPageLemmas.{among_bounds, touches_among}
 use Rattle.pm_volume.proofs.ServesLemmas.{of_volume, others-outside, reads_rest, serves-others}
 use Rattle.pm_volume.proofs.TurnLemmas.{length-pages}
 

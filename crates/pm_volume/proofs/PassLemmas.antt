@@ -12,7 +12,8 @@ use Rattle.pm_volume.specs.declared.fault.VolumeFault.{VolumeFault}
 use Rattle.pm_volume.specs.Object.{VolumeHolds, VolumeState, volume_place}
 use Rattle.pm_volume.specs.Refusals.{bytes_refusal, load_refusal, metadata_refusal_if, poisoned_at, store_refusal, volume_says}
 use Rattle.pm_volume.specs.Checked.{IsReadable, IsStorable}
-use Rattle.pm_volume.proofs.BadLemmas.{all_covered, all_good, finds_bad, finds_uncovered}
+use Rattle.pm_volume.proofs.BadLemmas.{finds_bad, finds_uncovered}
+use Rattle.page_lines.proofs.SearchLemmas.{all_covered, all_good}
 use Rattle.pm_volume.proofs.CheckLemmas.{checks_second}
 
 passed : {T : Type 0} (o : Option ℕ) (x : T) → Checks volume_says (poisoned_at o) (Ok x) → o ≡ None

@@ -13,7 +13,7 @@ sizes_are : (geo : Geometry) → 64 * size geo first_range + 64 * size geo secon
 unfolding size
 sizes_are geo = omega arith
 
-same_offset : (a b : ℕ) → Some a ≡ Some b → a ≡ b
+pub same_offset : (a b : ℕ) → Some a ≡ Some b → a ≡ b
 same_offset a b is = cc
 
 -- a span of addresses that is found lies within the volume

@@ -1,7 +1,7 @@
 -- Which pages are there, as lists.
-use Rattle.std.proofs.Common.{◌≡◌, inl, inr, ℕ, zero, suc, ◌+◌, ◌-◌, ◌*◌, ◌/◌, ◌<◌, ◌≤◌, ◌&&◌, ◌||◌, Bool, true, false, not, nat_le, nat_lt, List, [], ◌∷◌, take, drop, set, if◌then◌else◌, refl, sym, ap, ap₂, ◌∙◌, arith}
+use Rattle.std.proofs.Common.{◌≡◌, inl, inr, ℕ, zero, suc, ◌+◌, ◌-◌, ◌<◌, ◌≤◌, ◌&&◌, ◌||◌, Bool, true, false, not, List, [], ◌∷◌, take, drop, set, if◌then◌else◌, refl, sym, ap, ap₂, ◌∙◌, arith}
 use Rattle.std.specs.List.{list_any}
-use Rattle.std.proofs.lemmas.Bool.{cases_Bool, cases_lt, le-leb, lt-ltb, leb-true, ltb-true, and_parts, and_from, false≢true}
+use Rattle.std.proofs.lemmas.Bool.{cases_lt, false≢true}
 use Rattle.nvm_base.specs.declared.units.Span.{Span}
 use Rattle.nvm_base.specs.Units.{units_of}
 use Rattle.nvm_model.specs.Numbered.{map_from, is_among}
@@ -10,40 +10,7 @@ use Rattle.nvm_model.specs.Page.Page.{Absent}
 use Rattle.nvm_model.proofs.PageLemmas.{presence_of-map}
 use Rattle.nvm_model.proofs.FillLemmas.{presence_of-fill}
 use Rattle.pm_volume.specs.Presence.{switched}
-
--- tests that pass together are the same
-pub same_tests : (a b : Bool) → (a ≡ true → b ≡ true) → (b ≡ true → a ≡ true) → a ≡ b
-same_tests true b to back = sym (to refl)
-same_tests false true to back = back refl
-same_tests false false to back = refl
-
-pub among_from : (first count i : ℕ) → first ≤ i → i < first + count → is_among first count i ≡ true
-among_from first count i from to = and_from (nat_le first i) (nat_lt i (first + count)) (le-leb first i from) (lt-ltb i (first + count) to)
-
-pub among_bounds : (first count i : ℕ) → is_among first count i ≡ true → (first ≤ i) × (i < first + count)
-among_bounds first count i is =
-    let parts = and_parts (nat_le first i) (nat_lt i (first + count)) is in
-    (leb-true first i parts.0, ltb-true i (first + count) parts.1)
-
-pub not_among : (first count i : ℕ) → ((first ≤ i) → (i < first + count) → ⊥) → is_among first count i ≡ false
-not_among first count i out =
-    elim (cases_Bool (is_among first count i)) as (λ _. is_among first count i ≡ false) [
-      | inl is ↦ let at = among_bounds first count i is in absurd (out at.0 at.1)
-      | inr is_not ↦ is_not
-    ]
-
--- the pages that a span touches are those of its units
-pub touches_among : (start len i : ℕ) → 1 ≤ len → touches_page start len i ≡ is_among (start / 4096) ((start + len - 1) / 4096 + 1 - start / 4096) i
-touches_among start len i some =
-    same_tests (touches_page start len i) (is_among (start / 4096) ((start + len - 1) / 4096 + 1 - start / 4096) i)
-    (λ is.
-    let parts = and_parts (nat_lt start (4096 * i + 4096)) (nat_lt (4096 * i) (start + len)) is in
-    let below : start < 4096 * i + 4096 = ltb-true start (4096 * i + 4096) parts.0 in
-    let above : 4096 * i < start + len = ltb-true (4096 * i) (start + len) parts.1 in
-    among_from (start / 4096) ((start + len - 1) / 4096 + 1 - start / 4096) i (omega arith) (omega arith))
-    (λ is.
-    let at = among_bounds (start / 4096) ((start + len - 1) / 4096 + 1 - start / 4096) i is in
-    and_from (nat_lt start (4096 * i + 4096)) (nat_lt (4096 * i) (start + len)) (lt-ltb start (4096 * i + 4096) (omega (arith, at.0, at.1))) (lt-ltb (4096 * i) (start + len) (omega (arith, at.0, at.1))))
+use Rattle.nvm_model.proofs.TouchedPageLemmas.{among_bounds, among_from, not_among, same_tests, touches_among}
 
 -- absent ones among so many pages
 lacks : ℕ → ℕ → ℕ → List Bool → Bool

@@ -12,7 +12,7 @@ use Rattle.nvm_model.specs.Numbered.{is_among}
 use Rattle.nvm_model.proofs.NumberedLemmas.{length-list_from, slice_get-map_from}
 use Rattle.pm_volume.specs.Area.{volume_area}
 use Rattle.pm_volume.specs.Presence.{presence_word, presence_words, switched, word_changes}
-use Rattle.pm_volume.proofs.PresenceLemmas.{among_bounds, among_from, not_among, same_tests}
+use Rattle.nvm_model.proofs.TouchedPageLemmas.{among_bounds, among_from, not_among, same_tests}
 
 change_of : Geometry → Bool → ℕ → ℕ × ℕ
 change_of geo to page = (place geo (of_volume_page page), presence_word to)

@@ -34,6 +34,7 @@ impl Volume {
         ensures images { OnWorked volume_says result ((before : List Page) → VolumeHolds self.old (L.state dev.old).medium before
             → EachReadsPages self.old.geo (L.state dev.new).medium (λ left. (left ≡ before) ⊎ (left ≡ discard pages.start pages.len before))) }
         ensures outside { WritesBackOthers (IsOfVolume self.old.geo) (L.state dev.old).medium (L.state dev.new).medium }
+        ensures beside { WritesBackOutside (IsOf (volume_area self.old.geo)) (L.state dev.old).medium (L.state dev.new).medium }
         ensures metadata { KeepsMarks self.old.geo (L.state dev.old).medium (L.state dev.new).medium }
         ensures serves { IsTrue self.new.settled → VolumeServes self.new (L.state dev.new).medium }
         ensures object { (self.new.geo ≡ self.old.geo) × (self.new.settled ≡ is_done (outcome_by volume_says result)) }
@@ -59,6 +60,7 @@ impl Volume {
         ensures images { OnWorked volume_says result ((before : List Page) → VolumeHolds self.old (L.state dev.old).medium before
             → EachReadsPages self.old.geo (L.state dev.new).medium (AreMixed Page before (discard pages.start pages.len before))) }
         ensures outside { WritesBackOthers (IsOfVolume self.old.geo) (L.state dev.old).medium (L.state dev.new).medium }
+        ensures beside { WritesBackOutside (IsOf (volume_area self.old.geo)) (L.state dev.old).medium (L.state dev.new).medium }
         ensures metadata { KeepsMarks self.old.geo (L.state dev.old).medium (L.state dev.new).medium }
         ensures serves { IsTrue self.new.settled → VolumeServes self.new (L.state dev.new).medium }
         ensures object { (self.new.geo ≡ self.old.geo) × (self.new.settled ≡ is_done (outcome_by volume_says result)) }

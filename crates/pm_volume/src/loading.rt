@@ -1,10 +1,11 @@
 // Bytes of the volume as last stored.
-ghost use Rattle.std.specs.Prelude.{◌≡◌, ◌≤◌, IsTrue, List, OnOk, length};
+ghost use Rattle.std.specs.Prelude.{◌≡◌, ◌≤◌, IsTrue, List, OnErr, OnOk, length, ℕ};
 ghost use Rattle.line_device.specs.Medium.{WritesBack};
 ghost use Rattle.line_device.specs.Panel.{Runs};
 ghost use Rattle.line_words.specs.Ending.{ended};
 ghost use Rattle.line_words.specs.Told.{Answers, OnRefused, is_done, outcome_by};
 ghost use Rattle.nvm_base.specs.Units.{units_of};
+ghost use Rattle.nvm_model.specs.Numbered.{AreMixed};
 ghost use Rattle.nvm_model.specs.Page.{Page, look};
 ghost use Rattle.pm_volume.specs.Checked.{IsReadable};
 ghost use Rattle.pm_volume.specs.Object.{VolumeHolds, VolumeServes};
@@ -32,6 +33,8 @@ impl Volume {
         ensures untouched { OnRefused volume_says result ((out.new ≡ out.old) × (dev.new ≡ dev.old)) }
         ensures ok { OnOk result ((pages : List Page) → VolumeHolds self.old (L.state dev.old).medium pages
             → out.new ≡ look pages offset (length out.old)) }
+        ensures err { OnErr result ((pages : List Page) → VolumeHolds self.old (L.state dev.old).medium pages
+            → AreMixed ℕ out.old (look pages offset (length out.old)) out.new) }
         ensures lines { WritesBack (L.state dev.old).medium (L.state dev.new).medium }
         ensures serves { VolumeServes self.new (L.state dev.new).medium }
         ensures object { self.new ≡ record self.old { settled = is_done (outcome_by volume_says result) } }
@@ -56,6 +59,8 @@ impl Volume {
         requires readable { IsReadable self.now (L.state dev.old).medium (record { start = offset; len = length out.old }) }
         ensures ok { OnOk result ((pages : List Page) → VolumeHolds self.now (L.state dev.old).medium pages
             → out.new ≡ look pages offset (length out.old)) }
+        ensures err { OnErr result ((pages : List Page) → VolumeHolds self.now (L.state dev.old).medium pages
+            → AreMixed ℕ out.old (look pages offset (length out.old)) out.new) }
         ensures lines { WritesBack (L.state dev.old).medium (L.state dev.new).medium }
         ensures runs { Runs (units_of 64 (record { start = offset; len = length out.old })).len 0 (ended result)
             (L.state dev.old).panel (L.state dev.new).panel }

@@ -7,6 +7,7 @@ ghost use Rattle.line_words.specs.Told.{outcome_by};
 ghost use Rattle.line_words.specs.Words.{WritesBackOutside};
 ghost use Rattle.nvm_model.specs.Lines.{AreStrong};
 ghost use Rattle.word_log.specs.Area.{IsOf, gate_place};
+ghost use Rattle.word_log.specs.Mount.{LeavesWrong};
 ghost use Rattle.word_log.specs.Rest.{EachImage, IsReached};
 ghost use Rattle.word_tables.specs.Bounds.{IsValid};
 ghost use Rattle.word_tables.specs.Layout.{meta_lines, total_lines};
@@ -34,6 +35,7 @@ impl Volume {
             × (volume.present ≡ presence_read geo (last_image (L.state dev.old).medium))) }
         ensures finds { FindsVolume geo (L.state dev.old).medium result }
         ensures images { EachImage (volume_area geo) (L.state dev.new).medium (IsReached (volume_area geo) (L.state dev.old).medium) }
+        ensures refused { LeavesWrong (volume_area geo) (L.state dev.old).medium (L.state dev.new).medium }
         ensures closed { last_image (L.state dev.old).medium (gate_place (volume_area geo)) ≡ 0
             → WritesBack (L.state dev.old).medium (L.state dev.new).medium }
         ensures outside { WritesBackOutside (IsOf (volume_area geo)) (L.state dev.old).medium (L.state dev.new).medium }

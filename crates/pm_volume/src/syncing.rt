@@ -1,16 +1,17 @@
 // What was stored, made durable.
-ghost use Rattle.std.specs.Prelude.{◌≡◌, IsTrue, List, OnOk, Some, ℕ};
+ghost use Rattle.std.specs.Prelude.{◌≡◌, true, IsTrue, List, OnOk, Some, ℕ};
 ghost use Rattle.line_device.specs.Panel.{Runs};
 ghost use Rattle.line_words.specs.Told.{Answers, OnRefused, OnWorked, is_done, outcome_by};
 ghost use Rattle.line_words.specs.Ending.{ended};
 ghost use Rattle.nvm_model.specs.Interrupted.{MaySync};
 ghost use Rattle.nvm_model.specs.Page.{Page, persist};
+ghost use Rattle.page_lines.specs.Placed.{IsPlaced};
 ghost use Rattle.page_lines.specs.Turns.{WritesBackOthers};
 ghost use Rattle.pm_volume.specs.Area.{IsOfVolume};
 ghost use Rattle.pm_volume.specs.Checked.{IsReadable};
 ghost use Rattle.pm_volume.specs.Costs.{lines_there, lines_there_at};
 ghost use Rattle.pm_volume.specs.Images.{EachReadsPages};
-ghost use Rattle.pm_volume.specs.Object.{KeepsMarks, VolumeHolds, VolumeServes};
+ghost use Rattle.pm_volume.specs.Object.{KeepsMarks, VolumeHolds, VolumeServes, volume_place};
 ghost use Rattle.pm_volume.specs.Refusals.{physical_offset, physical_refusal, sync_refusal, volume_says};
 
 use crate::{Volume, VolumeFault};
@@ -34,6 +35,8 @@ impl Volume {
         ensures images { OnWorked volume_says result ((pages : List Page) → VolumeHolds self.old (L.state dev.old).medium pages
             → EachReadsPages self.old.geo (L.state dev.new).medium (MaySync span.start span.len pages)) }
         ensures outside { WritesBackOthers (IsOfVolume self.old.geo) (L.state dev.old).medium (L.state dev.new).medium }
+        ensures beside { WritesBackOthers (IsPlaced (volume_place self.old.geo self.old.present true) span.start span.len)
+            (L.state dev.old).medium (L.state dev.new).medium }
         ensures metadata { KeepsMarks self.old.geo (L.state dev.old).medium (L.state dev.new).medium }
         ensures serves { VolumeServes self.new (L.state dev.new).medium }
         ensures object { self.new ≡ record self.old { settled = is_done (outcome_by volume_says result) } }
@@ -62,6 +65,9 @@ impl Volume {
             → physical_offset self.old.geo span.start span.len ≡ Some offset → VolumeHolds self.old (L.state dev.old).medium pages
             → EachReadsPages self.old.geo (L.state dev.new).medium (MaySync offset span.len pages)) }
         ensures outside { WritesBackOthers (IsOfVolume self.old.geo) (L.state dev.old).medium (L.state dev.new).medium }
+        ensures beside { (offset : ℕ) → physical_offset self.old.geo span.start span.len ≡ Some offset
+            → WritesBackOthers (IsPlaced (volume_place self.old.geo self.old.present true) offset span.len)
+            (L.state dev.old).medium (L.state dev.new).medium }
         ensures metadata { KeepsMarks self.old.geo (L.state dev.old).medium (L.state dev.new).medium }
         ensures serves { VolumeServes self.new (L.state dev.new).medium }
         ensures object { self.new ≡ record self.old { settled = is_done (outcome_by volume_says result) } }
@@ -87,6 +93,8 @@ impl Volume {
         ensures images { (pages : List Page) → VolumeHolds self.now (L.state dev.old).medium pages
             → EachReadsPages self.now.geo (L.state dev.new).medium (MaySync span.start span.len pages) }
         ensures outside { WritesBackOthers (IsOfVolume self.now.geo) (L.state dev.old).medium (L.state dev.new).medium }
+        ensures beside { WritesBackOthers (IsPlaced (volume_place self.now.geo self.now.present true) span.start span.len)
+            (L.state dev.old).medium (L.state dev.new).medium }
         ensures metadata { KeepsMarks self.now.geo (L.state dev.old).medium (L.state dev.new).medium }
         ensures serves { VolumeServes self.now (L.state dev.new).medium }
         ensures runs { let lines = lines_there self.now.geo self.now.present span.start span.len in

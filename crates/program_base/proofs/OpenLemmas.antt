@@ -111,7 +111,7 @@ pub closed_unmounted : (name : List ℕ) (held : Option Held) (lines : List Line
 closed_unmounted name held lines (Layout place) counted counts old new there is = (lines, there, is)
 closed_unmounted name held lines (Meta line) counted counts old new there is = (lines, there, is)
 closed_unmounted name held lines Memory counted counts old new there is = tt
-closed_unmounted name held lines endings.Device counted counts old new there is = is
+closed_unmounted name held lines endings.Device counted counts old new there is = (lines, there, is)
 closed_unmounted name held lines Usage counted counts old new there is = is
 closed_unmounted name held lines (Image offset) counted counts old new there is = absurd is
 closed_unmounted name held lines Read counted counts old new there is = absurd is

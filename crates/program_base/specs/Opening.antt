@@ -37,10 +37,14 @@ pub record IsHeld (name : List ℕ) (held : Option Held) (lines : List LineState
   pub right : IsSnapshot (snapshot lines)
   pub text : IfSome held (λ look. look name ≡ Some (image_text (snapshot lines)))
 
--- what is held under the name is no image from this offset on, or more bytes than one may have
+-- bytes are no image from this offset on; or they are more than one may have, which is told first, whatever they are
+abbrev pub IsNoImageFrom : ℕ → List ℕ → Type 0
+IsNoImageFrom offset bytes =
+    ((length bytes ≤ most_bytes) × (first_wrong_offset bytes ≡ Some offset)) ⊎ ((most_bytes < length bytes) × (offset ≡ most_bytes))
+
+-- and such bytes are held under the name
 abbrev pub IsNoImage : List ℕ → Option Held → ℕ → Type 0
-IsNoImage name held offset = IfSome held (λ look. IsSomeAnd (look name) (λ bytes.
-    (first_wrong_offset bytes ≡ Some offset) ⊎ ((most_bytes < length bytes) × (offset ≡ most_bytes))))
+IsNoImage name held offset = IfSome held (λ look. IsSomeAnd (look name) (IsNoImageFrom offset))
 
 -- what setting up says: nothing, but it asks of the device what a mount may
 abbrev pub opening : Transcript
@@ -85,7 +89,7 @@ StaysClosed name held (Layout place) counted counts old new = (lines : List Line
 StaysClosed name held (Meta line) counted counts old new = (lines : List LineState) × IsHeld name held lines × (first_finding (medium_of lines) ≡ Some (bad_line line))
 StaysClosed name held Read counted counts old new = Rose counted.fetch_faults counts.fetch_faults ⊎ IsSomeAnd held (λ look. look name ≡ None)
 StaysClosed name held Memory counted counts old new = Unit {0}
-StaysClosed name held endings.Device counted counts old new = DeviceFailed old new
+StaysClosed name held endings.Device counted counts old new = (lines : List LineState) × IsHeld name held lines × DeviceFailed old new
 StaysClosed name held Usage counted counts old new = ⊥
 StaysClosed name held Write counted counts old new = ⊥
 StaysClosed name held Script counted counts old new = ⊥

@@ -2,7 +2,6 @@ pub mod PartLemmas
 pub mod AskLemmas
 pub mod TextLemmas
 pub mod DecimalLemmas
-pub mod DataTextLemmas
 pub mod DataLemmas
 pub mod PrintedLemmas
 pub mod CommentLemmas

@@ -11,9 +11,12 @@ use Rattle.reply_text.specs.declared.reply.Why.TheVariants as why
 use Rattle.script_text.specs.Script.{is_blank, words_of}
 use Rattle.questions.specs.Asked.{bytes_asked, reply_asked}
 use Rattle.questions.specs.Printed.{MayBeAsked}
-use Rattle.questions.proofs.TextLemmas.{is_word, list_all-weaker, words_of-alone, words_of-before}
-use Rattle.questions.proofs.DecimalLemmas.{number_of-decimal, decimal-word, decimal-some}
-use Rattle.questions.proofs.DataLemmas.{data_within-text, data_text-word, data_text-some}
+use Rattle.nvm_base.proofs.DecimalLemmas.{number_of-decimal}
+use Rattle.nvm_base.proofs.PrintedLemmas.{data_within-text, data_text-some}
+use Rattle.nvm_base.proofs.SplitLemmas.{list_all-weaker}
+use Rattle.questions.proofs.TextLemmas.{is_word, words_of-alone, words_of-before}
+use Rattle.questions.proofs.DecimalLemmas.{decimal-word, decimal-some}
+use Rattle.questions.proofs.DataLemmas.{data_text-word}
 
 -- a word and a space before others
 put : (word rest : List ℕ) (words : List (List ℕ)) → is_word word ≡ true → 0 < length word → words_of rest ≡ words → words_of (word ++ 32 ∷ rest) ≡ word ∷ words
@@ -62,8 +65,9 @@ refusal why.Unknown = refl
 
 pub asked_again : (answer : Answer) → MayBeAsked answer → reply_asked (words_of (answer_text answer)) ≡ Some answer
 asked_again (Bytes bytes) h =
-    let words = put (codes "data") (data_text bytes) _ refl (omega arith) (words_of-alone (data_text bytes) (data_text-word bytes h.0 h.1 h.2) (data_text-some bytes h.0 h.1 h.2)) in
-    ap reply_asked words ∙ ap bytes_asked (data_within-text bytes h.0 h.1 h.2)
+    let few : length bytes < 2 ^ 32 = let most = h.1 in omega arith in
+    let words = put (codes "data") (data_text bytes) _ refl (omega arith) (words_of-alone (data_text bytes) (data_text-word bytes h.1 h.2) (data_text-some bytes h.0 few h.2)) in
+    ap reply_asked words ∙ ap bytes_asked (data_within-text bytes h.0 few h.2 65536 h.1)
 asked_again (PoisonBlock block line) h =
     let words = put (codes "poison") _ _ refl (omega arith) (put (codes "block") _ _ refl (omega arith) (put (decimal block) (decimal line) _ (decimal-word block h.0) (decimal-some block h.0) (number line h.1))) in
     ap reply_asked words ∙ rw (number_of-decimal block h.0, number_of-decimal line h.1) refl

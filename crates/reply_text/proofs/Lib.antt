@@ -1,3 +1,6 @@
 mod EventTextLemmas
 mod FileTextLemmas
 mod RangeTextLemmas
+mod ReadLemmas
+mod SpokenLemmas
+mod TellLemmas

@@ -92,7 +92,7 @@ reads-faulty old now new a b c Failed before none on =
       taken = before.taken ++ on.taken;
       read = Consumes-trans a b c before.taken on.taken before.read on.read;
       count = omega (arith, on.count, before.count, length-append before.taken on.taken);
-      gives = (unended _ before.begun new.waiting split (on.waiting ∙ on.brings.0) before.unbroken, on.brings.2);
+      gives = (unended _ before.begun new.waiting split (on.waiting ∙ on.brings.0) before.unbroken, on.brings.2, omega (arith, on.count, on.brings.3, ap length on.brings.0));
       stays = λ is. absurd (true≢false (sym (before.stays is).1 ∙ on.brings.1));
       ends = λ at_end is. on.ends (before.ends at_end) is;
     }

@@ -29,7 +29,7 @@ pub record TakesPart (old new : Stream) (whole : Bool) : Type 0 where
 abbrev pub Brings : List ℕ → Stream → Stream → Result Bool InputFault → Type 0
 Brings taken old new (Ok true) = (0 < length taken) × IsFalse old.ended × IsFalse new.ended × (old.taken < 1073741824)
 Brings taken old new (Ok false) = (taken ≡ []) × IsTrue new.ended × (new.taken < 1073741824)
-Brings taken old new (Err Failed) = (taken ≡ []) × IsFalse old.ended × IsFalse new.ended
+Brings taken old new (Err Failed) = (taken ≡ []) × IsFalse old.ended × IsFalse new.ended × (old.taken < 1073741824)
 Brings taken old new (Err TooLarge) = (taken ≡ []) × IsFalse old.ended × IsFalse new.ended × (1073741824 ≤ old.taken)
 
 pub record ReadsOn (old new : Stream) (left_old left_new : Option (List ℕ)) (result : Result Bool InputFault) : Type 0 where

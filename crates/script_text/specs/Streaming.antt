@@ -46,7 +46,7 @@ abbrev pub Gives : List ℕ → Stream → Result NextLine InputFault → Type 0
 Gives bytes new (Ok Line) = IsSomeAnd new.line (λ line. (length line ≤ 65536) × IsFirstLine new.ended bytes line new.waiting)
 Gives bytes new (Ok TooLong) = LongLine bytes new
 Gives bytes new (Ok End) = (bytes ≡ []) × (new.waiting ≡ []) × IsTrue new.ended × (new.taken < 1073741824)
-Gives bytes new (Err Failed) = IsUnbroken bytes × IsFalse new.ended
+Gives bytes new (Err Failed) = IsUnbroken bytes × IsFalse new.ended × (new.taken < 1073741824)
 Gives bytes new (Err TooLarge) = IsUnbroken bytes × IsFalse new.ended × (1073741824 ≤ new.taken)
 
 -- What was given of a script up to here: whatever comes, its lines are these, and then those of what waits and what comes.

@@ -2,7 +2,7 @@
 ghost use Rattle.std.specs.Prelude.{◌≡◌, ◌+◌, ◌<◌, ◌≤◌, ℕ, [], Some, None, map, length, slice_get, IfSome, IfOk, OnOk};
 ghost use Rattle.line_device.specs.Medium.{Shows};
 ghost use Rattle.test_devices.specs.Starts.{told_start};
-ghost use Rattle.test_devices.specs.Recorder.{recorded};
+ghost use Rattle.test_devices.specs.Recorder.{recorded, recorded_device};
 
 use crate::Start;
 use line_device::{LineList, Order, Peek};
@@ -23,10 +23,11 @@ pub struct Recorder<D> {
 
 impl<D: Peek> Recorder<D> {
     pub fn new(alloc: Global, inner: D) -> Self
-        ensures { recorded D.state result ≡ record {
+        ensures device { recorded D.state result ≡ record {
           medium = (D.state inner).medium;
           panel = record (D.state inner).panel { starts = Some []; last_order = Some None };
         } }
+        ensures behind { recorded_device result ≡ inner }
     {
         Recorder {
             inner,

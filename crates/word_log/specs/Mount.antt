@@ -1,7 +1,7 @@
 -- What the answers of a mount say of the device as it was.
 use Rattle.std.specs.Prelude.{◌≡◌, ℕ, true, Option, Some, None, Result}
 use Rattle.std.specs.Option.{option_or}
-use Rattle.line_device.specs.Medium.{Medium, last_image}
+use Rattle.line_device.specs.Medium.{Medium, WritesBack, last_image}
 use Rattle.line_words.specs.declared.interruption.Interruption.TheVariants as stop
 use Rattle.line_words.specs.Told.{Told, Explains}
 use Rattle.line_words.specs.Told.Told.{Refuses, Stops, Starves}
@@ -53,6 +53,10 @@ IsFound a m why = IsWrongIn a (first_wrong a) m why
 
 abbrev pub LogFinds : {T : Type 0} → LogArea → Medium → Result T LogFault → Type 0
 LogFinds a m result = FindsIn says a (first_wrong a) m result
+
+-- Where something is wrong with a log, its mount has only written lines back, however it ended.
+abbrev pub LeavesWrong : LogArea → Medium → Medium → Type 0
+LeavesWrong a old new = (why : Finding) → IsFound a old why → WritesBack old new
 
 -- the first wrong place of a log, or else of the table that its home words are once it is replayed
 abbrev pub wrong_with : LogArea → ((ℕ → ℕ) → Option ℕ) → (ℕ → ℕ) → Option ℕ

@@ -5,7 +5,7 @@ ghost use Rattle.line_device.specs.Panel.{Runs};
 ghost use Rattle.line_words.specs.Told.{IsStop};
 ghost use Rattle.line_words.specs.Words.{WritesBackOutside};
 ghost use Rattle.word_log.specs.Area.{AreHomeWords, Fits, IsOf, IsStrong, IsWhole, gate_place};
-ghost use Rattle.word_log.specs.Mount.{LogFinds, says};
+ghost use Rattle.word_log.specs.Mount.{LeavesWrong, LogFinds, says};
 ghost use Rattle.word_log.specs.Outcomes.{log_outcome};
 ghost use Rattle.word_log.specs.Replay.{replayed};
 ghost use Rattle.word_log.specs.Rest.{EachImage, IsAtRest, IsReached};
@@ -32,6 +32,7 @@ pub fn mount_words<L: Lines>(
         (replayed area (last_image (L.state dev.old).medium))) }
     ensures finds { LogFinds area (L.state dev.old).medium result }
     ensures images { EachImage area (L.state dev.new).medium (IsReached area (L.state dev.old).medium) }
+    ensures refused { LeavesWrong area (L.state dev.old).medium (L.state dev.new).medium }
     ensures closed { last_image (L.state dev.old).medium (gate_place area) ≡ 0
         → WritesBack (L.state dev.old).medium (L.state dev.new).medium }
     ensures outside { WritesBackOutside (IsOf area) (L.state dev.old).medium (L.state dev.new).medium }

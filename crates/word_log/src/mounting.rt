@@ -7,7 +7,7 @@ ghost use Rattle.word_log.specs.Replay.{listed, replayed, first_wrong, Replays};
 ghost use Rattle.line_words.specs.Words.{WritesBackOutside};
 ghost use Rattle.word_log.specs.Rest.{IsAtRest, IsReached, EachImage};
 ghost use Rattle.line_words.specs.Words.{IsOnly};
-ghost use Rattle.word_log.specs.Mount.{IsRefusal, LogFinds};
+ghost use Rattle.word_log.specs.Mount.{IsRefusal, LeavesWrong, LogFinds};
 ghost use Rattle.word_log.specs.Outcomes.{log_outcome};
 ghost use Rattle.line_words.specs.Ending.{ended};
 
@@ -57,6 +57,7 @@ pub fn mount<L: Lines>(alloc: Global, dev: &mut L, area: LogArea) -> Result<Log,
     ensures images { EachImage area (L.state dev.new).medium (IsReached area (L.state dev.old).medium) }
     ensures refused { IfErr result (λ fault. IsRefusal fault
         → WritesBack (L.state dev.old).medium (L.state dev.new).medium) }
+    ensures wrong { LeavesWrong area (L.state dev.old).medium (L.state dev.new).medium }
     ensures closed { last_image (L.state dev.old).medium (gate_place area) ≡ 0
         → WritesBack (L.state dev.old).medium (L.state dev.new).medium }
     ensures outside { WritesBackOutside (IsOf area) (L.state dev.old).medium (L.state dev.new).medium }

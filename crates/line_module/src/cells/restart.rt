@@ -8,9 +8,9 @@ ghost use Rattle.line_module.specs.Memory.{memory_after_restart, with_survivors}
 ghost use Rattle.line_module.specs.Cells.{cells_medium, memory_in};
 
 use super::Cells;
-use crate::bytes::{put, word_in};
+use crate::bytes::put;
 use crate::state::{Next, State};
-use line_device::Choice;
+use line_device::{Choice, word_bytes, word_in};
 use nvm_base::LineNo;
 
 impl Cells {
@@ -72,7 +72,7 @@ impl Cells {
         for w in 0..8_u64 {
             let first = word_in(&bytes, w);
             let value = self.drawn_word(line, w, seed, first);
-            put(&mut bytes, 8 * w, &value.to_le_bytes());
+            put(&mut bytes, 8 * w, &word_bytes(value));
         }
         bytes
     }

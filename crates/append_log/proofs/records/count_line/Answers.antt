@@ -5,4 +5,4 @@ use Rattle.append_log.proofs.records.count_line.Goals as goal
 
 pub returns-clause-count : goal.returns-clause-count
 returns-clause-count c =
-    ap (λ (bs : List ℕ). word_at (bs ++ replicate 56 0) 0) (c.copy_from_slice.ensures.after ∙ c.to_le_bytes.ensures) ∙ count-spelled c.args.count (replicate 56 0) c.ranges.count.fits
+    ap (λ (bs : List ℕ). word_at (bs ++ replicate 56 0) 0) (c.copy_from_slice.ensures.after ∙ c.word_bytes.ensures) ∙ count-spelled c.args.count (replicate 56 0) c.ranges.count.fits

@@ -7,6 +7,7 @@ use Rattle.block_map.specs.declared.state.BlockState.TheVariants as state
 use Rattle.block_device.specs.Reading.{bytes_read}
 use Rattle.block_device.specs.Object.{BlocksState, IsKept, blocks_of}
 use Rattle.block_device.proofs.BlockLemmas.{unit_lines, unit_good, unit_read, block_put, zeros_put}
+use Rattle.block_device.proofs.StoppedReadLemmas.{unit_part_put}
 use Rattle.block_device.proofs.Blocks.load_block.Goals as goal
 
 pub load_unit-requires-clause-healthy : goal.load_unit-requires-clause-healthy
@@ -29,6 +30,16 @@ returns-in-At-clause-ok g c =
     c.requires.within c.load_unit.ensures.ok
     (unit_read s m c.args.block c.in-At.unit c.block_line.result at line (unit_good s m c.args.block c.in-At.unit c.block_line.result at line c.requires.readable))
 
+pub returns-in-At-clause-err : goal.returns-in-At-clause-err
+returns-in-At-clause-err g c =
+    let s = c.args.self.now in
+    let m = (g.L.Lines.state c.args.dev.now).medium in
+    let at = subst (λ (s : BlocksState). slice_get s.map c.args.block ≡ Some (state.At c.in-At.unit)) c.self.view_is c.in-At.ensures.state in
+    let line = c.block_line.ensures ∙ ap (λ (s : BlocksState). block_line s.geo c.in-At.unit) c.self.view_is in
+    unit_part_put c.load_unit.result (last_image m) (blocks_of s m) c.args.block (64 * c.block_line.result) c.args.at c.args.out.now c.load_unit.new.out
+    c.requires.within c.load_unit.ensures.err
+    (unit_read s m c.args.block c.in-At.unit c.block_line.result at line (unit_good s m c.args.block c.in-At.unit c.block_line.result at line c.requires.readable))
+
 pub returns-in-Absent : goal.returns-in-Absent
 returns-in-Absent g c =
     let s = c.args.self.now in
@@ -36,6 +47,7 @@ returns-in-Absent g c =
     let state = subst (λ (s : BlocksState). slice_get s.map c.args.block ≡ Some c.get.result) c.self.view_is c.get.ensures.state in
     record {
       ok = zeros_put s m c.args.block c.args.at c.get.result c.args.out.now c.zero.new.out c.requires.within state c.in-Absent.is (omega (arith, c.zero.auto.out, length-take {A = ℕ}, length-drop {A = ℕ})) c.zero.ensures;
+      err = tt;
       lines = write_back-refl _;
       runs = runs_within 0 0 8 0 _ _ _ (runs-refl _) (omega arith) (omega arith);
     }

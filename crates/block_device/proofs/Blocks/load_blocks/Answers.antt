@@ -1,5 +1,6 @@
-use Rattle.std.proofs.Common.{◌≡◌, ◌+◌, ◌*◌, ◌++◌, None, List, take, drop, ◌∙◌, subst, sym, arith}
+use Rattle.std.proofs.Common.{◌≡◌, ◌+◌, ◌*◌, ◌/◌, ◌++◌, ℕ, None, List, length, take, drop, ◌∙◌, subst, sym, arith}
 use Rattle.nvm_model.specs.Storage.{Block}
+use Rattle.nvm_model.specs.Numbered.{AreMixed}
 use Rattle.nvm_model.specs.Blocks.{nth, obstacle_in, look_blocks}
 use Rattle.line_device.proofs.WriteBackLemmas.{write_back-refl, write_back-trans}
 use Rattle.line_device.proofs.PanelLemmas.{runs-refl, runs_then, runs_within}
@@ -7,6 +8,7 @@ use Rattle.block_device.specs.Object.{blocks_of}
 use Rattle.block_device.proofs.BlockLemmas.{looked_none, looked_more, looked_all}
 use Rattle.block_device.proofs.ObstacleLemmas.{readable}
 use Rattle.block_device.proofs.ServesLemmas.{blocks_of-write_back, serves-write_back}
+use Rattle.block_device.proofs.StoppedReadLemmas.{looked_stopped, on_err}
 use Rattle.block_device.proofs.Blocks.load_blocks.Goals as goal
 
 pub loop-k-init : goal.loop-k-init
@@ -29,6 +31,18 @@ load_block-requires-clause-readable g c =
     let i = c.args.block + c.loop-k.k in
     subst (λ (bs : List Block). obstacle_in i (nth bs i) ≡ None) (sym (blocks_of-write_back s old (g.L.Lines.state c.loop-k.dev).medium c.loop-k.invariant.lines))
     (readable (blocks_of s old) c.args.block _ c.loop-k.k c.requires.readable c.loop-k-test.true)
+
+pub returns-in_err-load_block-clause-err : goal.returns-in_err-load_block-clause-err
+returns-in_err-load_block-clause-err g c =
+    let s = c.args.self.now in
+    let old = (g.L.Lines.state c.args.dev.now).medium in
+    let now = (g.L.Lines.state c.loop-k.dev).medium in
+    let k = c.loop-k.k in
+    let before = c.loop-k.out in
+    on_err c.from_residual.result
+    (looked_stopped (blocks_of s old) c.args.block k (length c.args.out.now / 512) c.args.out.now before c.load_block.new.out (omega (arith, c.loop-k-test.true)) (omega (arith, c.requires.whole)) c.loop-k.invariant.bytes
+    (subst (λ (bs : List Block). AreMixed ℕ before (take (512 * k) before ++ look_blocks bs (c.args.block + k) 1 ++ drop (512 * k + 512) before) c.load_block.new.out)
+    (blocks_of-write_back s old now c.loop-k.invariant.lines) c.in_err-load_block.ensures.err))
 
 pub returns-in_err-load_block-clause-lines : goal.returns-in_err-load_block-clause-lines
 returns-in_err-load_block-clause-lines g c = write_back-trans _ _ _ c.loop-k.invariant.lines c.in_err-load_block.ensures.lines

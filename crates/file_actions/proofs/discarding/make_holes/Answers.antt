@@ -73,10 +73,17 @@ returns-clause-tables g c =
     (holes-right s.geo.fpages s.tables c.args.inode c.args.pages.start c.args.pages.len c.requires.tables c.requires.inode c.requires.within)))
     c.switch.ensures.ok
 
-pub returns-clause-known : goal.returns-clause-known
-returns-clause-known g c =
+pub returns-clause-switched : goal.returns-clause-switched
+returns-clause-switched g c =
+    let s = c.args.files.now.journal in
+    on_ok-then c.switch.result (λ same. same ∙ ap (λ (ss : List (ℕ × Option ℕ)). switched c.args.inode ss s.tables) (c.as_slice.ensures.value ∙ c.holes-switches.ensures)) c.switch.ensures.ok
+
+pub returns-clause-units : goal.returns-clause-units
+returns-clause-units g c =
     let named = ap named_units (c.as_slice.ensures.value ∙ c.holes-switches.ensures) ∙ named_holes c.args.pages.start c.args.pages.len in
-    on_ok-then c.switch.result (λ (units : KeepsUnits (named_units c.as_slice.result.now) c.args.files.now.journal c.switch.new.files.journal). omega (arith, units.known, named)) c.switch.ensures.units
+    let before = c.args.files.now.journal in
+    let after = c.switch.new.files.journal in
+    on_ok-then c.switch.result (λ (units : KeepsUnits (named_units c.as_slice.result.now) before after). subst (λ (n : ℕ). KeepsUnits n before after) named units) c.switch.ensures.units
 
 pub returns-clause-runs : goal.returns-clause-runs
 returns-clause-runs g c =

@@ -8,11 +8,13 @@ use Rattle.nvm_model.specs.Page.{persist}
 use Rattle.nvm_model.specs.Touched.{next_bad_touched, persist_spans}
 use Rattle.nvm_model.proofs.OneFileLemmas.{left-change}
 use Rattle.nvm_model.proofs.SeveralLemmas.{may_sync_all-done}
-use Rattle.page_lines.proofs.OthersLemmas.{others-refl}
+use Rattle.page_lines.specs.Placed.{IsPlaced}
+use Rattle.page_lines.proofs.OthersLemmas.{others-refl, others-wider}
 use Rattle.file_journal.specs.Object.{JournalState}
 use Rattle.file_journal.specs.Standing.{EachReadsFiles, FilesStand}
 use Rattle.file_journal.specs.Tables.{AreTables}
 use Rattle.file_journal.proofs.ReplaceLemmas.{pages_at_most}
+use Rattle.file_pages.specs.Object.{IsFileLine, file_place}
 use Rattle.file_pages.specs.Refusals.{page_says, read_refusal}
 use Rattle.file_pages.proofs.PassLemmas.{length-pages_on, pages_on}
 use Rattle.file_pages.proofs.WorkLemmas.{reads-left}
@@ -48,6 +50,9 @@ returns-then-pages-eq0-clause-images g c = λ listed file at.
     (subst (OneFileLeft file.name (MaySyncAll all_bytes) listed) (synced-none s m are c.args.inode listed file at none)
     (left-change file.name (persist_spans all_bytes) (MaySyncAll all_bytes) (may_sync_all-done all_bytes) listed))
 
+pub returns-then-pages-eq0-clause-beside : goal.returns-then-pages-eq0-clause-beside
+returns-then-pages-eq0-clause-beside g c = others-refl _ _
+
 pub returns-then-pages-eq0-clause-outside : goal.returns-then-pages-eq0-clause-outside
 returns-then-pages-eq0-clause-outside g c = others-refl _ _
 
@@ -70,6 +75,12 @@ returns-in_err-persist-clause-refused g c = λ listed file at.
     (subst (λ o. Answers {T = Unit {0}} page_says o (Err c.in_err-persist.field-0.0))
     (ap (λ n. read_refusal file.pages 0 (4096 * n)) all ∙ looked-at file.pages (omega (arith, size, count, some)) (omega (arith, size, most)))
     (c.in_err-persist.ensures.refused listed file at))
+
+pub returns-in_err-persist-clause-beside : goal.returns-in_err-persist-clause-beside
+returns-in_err-persist-clause-beside g c =
+    let s = c.args.files.now.journal in
+    let size = 4096 * c.pages-pages.result in
+    others-wider (IsPlaced (file_place s c.args.inode) 0 size) (IsFileLine s c.args.inode) (g.L.Lines.state c.args.dev.now).medium (g.L.Lines.state c.persist.new.dev).medium (λ line is. (is.0, is.2)) c.in_err-persist.ensures.beside
 
 pub returns-in_err-persist-clause-images : goal.returns-in_err-persist-clause-images
 returns-in_err-persist-clause-images g c =
@@ -111,6 +122,12 @@ returns-clause-ok g c = λ listed file at.
     subst (FilesStand s.geo new s.tables)
     (ap (λ (n : ℕ). change_file file_name file.name (on_pages (λ pages. persist 0 (4096 * n) pages)) listed) count ∙ synced-same s m are c.args.inode listed file at most)
     (c.in_ok-persist.ensures.ok listed file at)
+
+pub returns-clause-beside : goal.returns-clause-beside
+returns-clause-beside g c =
+    let s = c.args.files.now.journal in
+    let size = 4096 * c.pages-pages.result in
+    others-wider (IsPlaced (file_place s c.args.inode) 0 size) (IsFileLine s c.args.inode) (g.L.Lines.state c.args.dev.now).medium (g.L.Lines.state c.persist.new.dev).medium (λ line is. (is.0, is.2)) c.in_ok-persist.ensures.beside
 
 pub returns-clause-images : goal.returns-clause-images
 returns-clause-images g c = λ listed file at.

@@ -7,17 +7,17 @@ use Rattle.file_pages.specs.Fresh.{IsOfUnit, durable_cell}
 use Rattle.file_pages.specs.Object.{PagesState}
 use Rattle.file_pages.proofs.FilePages.fresh_page.Goals as goal
 
-pub returns-clause-lines : goal.returns-clause-lines
-returns-clause-lines g c = λ k below.
+pub returns-in-Ok-clause-lines : goal.returns-in-Ok-clause-lines
+returns-in-Ok-clause-lines g c = λ k below.
     let new = (g.L.Lines.state c.renew_unit.new.dev).medium in
     let unit = c.take-unit.result in
     subst (λ (p : PagesState). CellStands new (file_line p.journal.geo unit + k) (durable_cell (take 64 (drop (64 * k) c.args.bytes.now)))) c.self.view_is
-    (subst (λ (j : JournalState). CellStands new (file_line j.geo unit + k) (durable_cell (take 64 (drop (64 * k) c.args.bytes.now)))) c.take-unit.ensures.takes.after (c.in_ok-renew_unit.ensures.lines k below))
+    (subst (λ (j : JournalState). CellStands new (file_line j.geo unit + k) (durable_cell (take 64 (drop (64 * k) c.args.bytes.now)))) c.take-unit.ensures.takes.after (c.in-Ok.ensures.lines k below))
 
-pub returns-clause-beside : goal.returns-clause-beside
-returns-clause-beside g c =
+pub returns-in-Ok-clause-beside : goal.returns-in-Ok-clause-beside
+returns-in-Ok-clause-beside g c =
     let old = (g.L.Lines.state c.args.dev.now).medium in
     let new = (g.L.Lines.state c.renew_unit.new.dev).medium in
     let unit = c.take-unit.result in
     subst (λ (p : PagesState). WritesBackOthers (IsOfUnit (file_line p.journal.geo unit)) old new) c.self.view_is
-    (subst (λ (j : JournalState). WritesBackOthers (IsOfUnit (file_line j.geo unit)) old new) c.take-unit.ensures.takes.after c.in_ok-renew_unit.ensures.beside)
+    (subst (λ (j : JournalState). WritesBackOthers (IsOfUnit (file_line j.geo unit)) old new) c.take-unit.ensures.takes.after c.in-Ok.ensures.beside)

@@ -36,6 +36,12 @@ returns-clause-images g c =
     (subst (λ (l : PlacesState). OnOk c.persist_lines.result ((n line : ℕ) → unit_place l.geo l.units n ≡ Some line → Turns (persist_cell c.args.span.start c.args.span.len n) line old new)) c.of-lines.ensures c.persist_lines.ensures.ok)
     (subst (λ (l : PlacesState). OnErr c.persist_lines.result ((n line : ℕ) → unit_place l.geo l.units n ≡ Some line → MayTurn (MayPersist c.args.span.start c.args.span.len n) line old new)) c.of-lines.ensures c.persist_lines.ensures.err)
 
+pub returns-clause-beside : goal.returns-clause-beside
+returns-clause-beside g c =
+    let old = (g.L.Lines.state c.args.dev.now).medium in
+    let new = (g.L.Lines.state c.persist_lines.new.dev).medium in
+    subst (λ (l : PlacesState). WritesBackOthers (IsPlaced (unit_place l.geo l.units) c.args.span.start c.args.span.len) old new) c.of-lines.ensures c.persist_lines.ensures.outside
+
 pub returns-clause-outside : goal.returns-clause-outside
 returns-clause-outside g c =
     let old = (g.L.Lines.state c.args.dev.now).medium in

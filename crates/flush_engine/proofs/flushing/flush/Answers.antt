@@ -2,6 +2,9 @@ use Rattle.page_lines.proofs.OthersLemmas.{others-refl}
 use Rattle.flush_engine.proofs.RefusedLemmas.{flushed-err, flushed-stop}
 use Rattle.flush_engine.proofs.flushing.flush.Goals as goal
 
+pub returns-in_err-check-clause-beside : goal.returns-in_err-check-clause-beside
+returns-in_err-check-clause-beside g c = others-refl _ _
+
 pub returns-in_err-check-clause-outside : goal.returns-in_err-check-clause-outside
 returns-in_err-check-clause-outside g c = others-refl _ _
 

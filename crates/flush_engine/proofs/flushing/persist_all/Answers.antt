@@ -14,16 +14,17 @@ use Rattle.nvm_model.specs.Page.{persist}
 use Rattle.nvm_model.specs.Storage.{File}
 use Rattle.nvm_model.specs.Touched.{touches_any}
 use Rattle.nvm_model.proofs.SeveralLemmas.{touches-taken}
+use Rattle.page_lines.specs.Placed.{IsPlaced}
 use Rattle.page_lines.specs.Turns.{WritesBackOthers}
-use Rattle.page_lines.proofs.OthersLemmas.{others-refl, others-trans}
+use Rattle.page_lines.proofs.OthersLemmas.{others-refl, others-trans, others-wider}
 use Rattle.file_journal.specs.Area.{IsOfFiles}
 use Rattle.file_journal.specs.Object.{JournalServes, JournalState}
 use Rattle.file_journal.specs.Standing.{EachReadsFiles, FilesStand}
 use Rattle.file_pages.specs.Costs.{lines_there}
-use Rattle.file_pages.specs.Object.{IsFileAt, KeepsMarks, PagesState}
+use Rattle.file_pages.specs.Object.{IsFileAt, KeepsMarks, PagesState, file_place}
 use Rattle.file_pages.proofs.WorkLemmas.{ended_as}
-use Rattle.flush_engine.specs.Spans.{lines_in}
-use Rattle.flush_engine.proofs.SpanLemmas.{StandDurable, durable-left, durable-more, durable-none, durable-reads}
+use Rattle.flush_engine.specs.Spans.{IsSpanned, lines_in}
+use Rattle.flush_engine.proofs.SpanLemmas.{StandDurable, beside-more, durable-left, durable-more, durable-none, durable-reads, spanned-taken}
 use Rattle.flush_engine.proofs.flushing.persist_all.Goals as goal
 
 pub loop-span-init : goal.loop-span-init
@@ -33,6 +34,7 @@ loop-span-init g c =
     record {
       files = refl;
       stand = λ listed file at. subst (FilesStand j.geo m j.tables) (sym (durable-none file.name listed)) at.stand;
+      beside = others-refl _ _;
       outside = others-refl _ _;
       metadata = λ n below. refl;
       serves = c.requires.serves;
@@ -60,6 +62,10 @@ loop-span-preserved g c =
           (durable-more j c.args.inode old mid new (take i spans) span c.loop-span.invariant.stand
           (subst (λ (p : PagesState). (files : List File) (file : File) → IsFileAt p.journal mid c.args.inode files file
           → FilesStand p.journal.geo new p.journal.tables (change_file file_name file.name (on_pages (λ pages. persist span.start span.len pages)) files)) same c.in_ok-persist_rest.ensures.ok));
+      beside =
+          subst (λ (xs : List Span). WritesBackOthers (IsSpanned j c.args.inode xs) old new) (sym (take_more spans i none c.loop-span-test.true))
+          (beside-more j c.args.inode old mid new (take i spans) span c.loop-span.invariant.beside
+          (subst (λ (p : PagesState). WritesBackOthers (IsPlaced (file_place p.journal c.args.inode) span.start span.len) mid new) same c.in_ok-persist_rest.ensures.beside));
       outside =
           others-trans (IsOfFiles j.geo) old mid new c.loop-span.invariant.outside
           (subst (λ (p : PagesState). WritesBackOthers (IsOfFiles p.journal.geo) mid new) same c.in_ok-persist_rest.ensures.outside);
@@ -87,6 +93,21 @@ returns-in_err-persist_rest-clause-images g c =
     (subst (λ (p : PagesState). (files : List File) (file : File) → IsFileAt p.journal mid c.args.inode files file
     → EachReadsFiles p.journal.geo new (OneFileLeft file.name (MaySync span.start span.len) files)) c.loop-span.invariant.files c.in_err-persist_rest.ensures.images)
 
+pub returns-in_err-persist_rest-clause-beside : goal.returns-in_err-persist_rest-clause-beside
+returns-in_err-persist_rest-clause-beside g c =
+    let j = c.args.files.now.journal in
+    let old = (g.L.Lines.state c.args.dev.now).medium in
+    let mid = (g.L.Lines.state c.loop-span.dev).medium in
+    let new = (g.L.Lines.state c.persist_rest.new.dev).medium in
+    let spans = c.args.spans.now in
+    let i = c.loop-span.span-index in
+    let none : Span = record { start = 0; len = 0 } in
+    let span = get_or spans i none in
+    others-wider (IsSpanned j c.args.inode (take (i + 1) spans)) (IsSpanned j c.args.inode spans) old new (λ line. spanned-taken j c.args.inode line spans (i + 1))
+    (subst (λ (xs : List Span). WritesBackOthers (IsSpanned j c.args.inode xs) old new) (sym (take_more spans i none c.loop-span-test.true))
+    (beside-more j c.args.inode old mid new (take i spans) span c.loop-span.invariant.beside
+    (subst (λ (p : PagesState). WritesBackOthers (IsPlaced (file_place p.journal c.args.inode) span.start span.len) mid new) c.loop-span.invariant.files c.in_err-persist_rest.ensures.beside)))
+
 pub returns-in_err-persist_rest-clause-outside : goal.returns-in_err-persist_rest-clause-outside
 returns-in_err-persist_rest-clause-outside g c =
     let j = c.args.files.now.journal in
@@ -110,6 +131,12 @@ returns-in_err-persist_rest-clause-runs g c =
     (runs_then _ _ _ _ _ _ _ _ c.loop-span.invariant.runs
     (subst (λ (p : PagesState). let lines = lines_there p.journal c.args.inode span.start span.len in Runs lines lines (stop_outcome stop) (g.L.Lines.state c.loop-span.dev).panel (g.L.Lines.state c.persist_rest.new.dev).panel) c.loop-span.invariant.files c.in_err-persist_rest.ensures.runs))
     most most)
+
+pub returns-clause-beside : goal.returns-clause-beside
+returns-clause-beside g c =
+    let old = (g.L.Lines.state c.args.dev.now).medium in
+    let new = (g.L.Lines.state c.loop-span.dev).medium in
+    subst (λ (xs : List Span). WritesBackOthers (IsSpanned c.args.files.now.journal c.args.inode xs) old new) (take_all c.loop-span.span-index c.args.spans.now c.loop-span-test.false) c.loop-span.invariant.beside
 
 pub returns-clause-images : goal.returns-clause-images
 returns-clause-images g c =

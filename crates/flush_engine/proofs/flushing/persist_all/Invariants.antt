@@ -10,7 +10,7 @@ use Rattle.file_journal.specs.Area.{IsOfFiles}
 use Rattle.file_journal.specs.Object.{JournalServes}
 use Rattle.file_journal.specs.Standing.{FilesStand}
 use Rattle.file_pages.specs.Object.{IsFileAt, KeepsMarks}
-use Rattle.flush_engine.specs.Spans.{lines_in}
+use Rattle.flush_engine.specs.Spans.{IsSpanned, lines_in}
 use Rattle.flush_engine.proofs.flushing.persist_all.Given as goal
 
 abbrev pub invariant-loop-span : goal.invariant-loop-span
@@ -23,6 +23,7 @@ invariant-loop-span g l =
       files : l.files ≡ l.initial.files;
       stand : (listed : List File) (file : File) → IsFileAt j old.medium l.inode listed file
           → FilesStand j.geo new.medium j.tables (change_file file_name file.name (on_pages (persist_spans done)) listed);
+      beside : WritesBackOthers (IsSpanned j l.inode done) old.medium new.medium;
       outside : WritesBackOthers (IsOfFiles j.geo) old.medium new.medium;
       metadata : KeepsMarks j.geo old.medium new.medium;
       serves : JournalServes j new.medium;

@@ -3,7 +3,7 @@ use Rattle.std.proofs.lemmas.Result.{err_from_is_err_and}
 use Rattle.program_base.specs.World.{world}
 use Rattle.program_base.specs.declared.ending.Ending.TheVariants.{Memory}
 use Rattle.host_program.proofs.FormLemmas.{run_over, served_settled}
-use Rattle.host_program.proofs.GoingLemmas.{memory_not_source}
+use Rattle.host_program.proofs.GoingLemmas.{memory_not_source, memory_not_write}
 use Rattle.host_program.proofs.RestLemmas.{fit_served, rests-unsettled}
 use Rattle.host_program.proofs.RunLemmas.{halts-unperformed, halts-unstored}
 use Rattle.host_program.proofs.top.run.Goals as goal
@@ -25,7 +25,7 @@ returns-in_err-settle g c =
     let opened = c.in_ok-host.ensures in
     let ran = g.D.Lines.state c.run_script.new.device in
     rw (p.1, p.2) (inr (halts-unstored c.args.from.now c.args.to.now Memory c.in_ok-host.host c.run_script.new.host (g.D.Lines.state c.open.new.device) ran old new opened.ready c.in_ok-run_script.ensures.performs
-    (rests-unsettled c.run_script.new.host c.settle.new.self ran new.device c.in_err-settle.ensures.memory) memory_not_source tt (inl opened.counts.replaces) opened.counts.fetches (inl opened.held)))
+    (rests-unsettled c.run_script.new.host c.settle.new.self ran new.device c.in_err-settle.ensures.memory) memory_not_source (λ is end stands. absurd (memory_not_write is)) tt (inl opened.counts.replaces) opened.counts.fetches (inl opened.held)))
 
 pub store-requires : goal.store-requires
 store-requires g c =

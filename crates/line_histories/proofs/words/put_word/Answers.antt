@@ -4,8 +4,8 @@ use Rattle.line_histories.proofs.words.put_word.Goals as goal
 
 pub returns : goal.returns
 returns c =
-    c.from_le_bytes.ensures
-    ∙ put_eight c.args.at c.args.w c.args.old c.args.bytes.now c.to_le_bytes.result _ _ _ _ _ _ _ _ c.to_le_bytes.ensures
+    c.word_in.ensures
+    ∙ put_eight c.args.at c.args.w c.args.old c.args.bytes.now c.word_bytes.result _ _ _ _ _ _ _ _ c.word_bytes.ensures
     c.put_byte.ensures
     c.put_byte-2.ensures
     c.put_byte-3.ensures

@@ -1,5 +1,5 @@
 use Rattle.std.proofs.Common.{◌∙◌, arith}
-use Rattle.line_words.proofs.CallLemmas.{word_spelled}
+use Rattle.line_device.proofs.WordLemmas.{word_spelled}
 use Rattle.line_words.proofs.words.words_in.Goals as goal
 
 pub returns-clause-words : goal.returns-clause-words

@@ -7,13 +7,24 @@ use Rattle.page_lines.specs.Placed.{IsPlacedAmong, one_there, there_among}
 use Rattle.page_lines.specs.Turns.{WritesBackOthers}
 use Rattle.page_lines.proofs.OthersLemmas.{others-refl, others-wider}
 use Rattle.page_lines.proofs.LoopLemmas.{IsReached, others-next}
-use Rattle.page_lines.proofs.SpanLemmas.{there_among-next, there_among-within}
-use Rattle.page_lines.proofs.ClearLemmas.{AreZeros, zeros-next}
+use Rattle.page_lines.proofs.SpanLemmas.{on_err, there_among-next, there_among-within}
+use Rattle.page_lines.proofs.ClearLemmas.{AreZeros, may_clear-stopped, zeros-next}
 use Rattle.page_lines.proofs.StretchLemmas.{apart_along, others_along}
 use Rattle.page_lines.proofs.clearing.clear_lines.Goals as goal
 
 pub loop-k-init : goal.loop-k-init
-loop-k-init g c = record { along = c.stretch-stretch.ensures.lines; zeros = λ n line from below at. absurd (omega (arith, from, below)); others = others-refl _ _; runs = runs-refl _ }
+loop-k-init g c = record { along = c.stretch-stretch.ensures.lines; zeros = λ n line from below at. absurd (omega (arith, from, below)); good = λ _ h. h; others = others-refl _ _; runs = runs-refl _ }
+
+pub returns-in_err-clear_at-clause-err : goal.returns-in_err-clear_at-clause-err
+returns-in_err-clear_at-clause-err g c =
+    let place = g.P.Places.place c.args.places.now in
+    let first = c.args.first in
+    on_err c.from_residual.result
+    (may_clear-stopped place first (first + c.loop-k.k) (g.L.Lines.state c.args.dev.now).medium.count (g.L.Lines.state c.args.dev.now).medium (g.L.Lines.state c.loop-k.dev).medium (g.L.Lines.state c.clear_at.new.dev).medium
+    c.requires.apart c.loop-k.invariant.zeros c.loop-k.invariant.others c.in_err-clear_at.ensures.err)
+
+pub returns-in_err-clear_at-clause-good : goal.returns-in_err-clear_at-clause-good
+returns-in_err-clear_at-clause-good g c line h = c.in_err-clear_at.ensures.good line (c.loop-k.invariant.good line h)
 
 pub returns-in_err-clear_at-clause-outside : goal.returns-in_err-clear_at-clause-outside
 returns-in_err-clear_at-clause-outside g c =
@@ -50,6 +61,7 @@ loop-k-preserved g c =
       zeros =
           subst (λ limit. AreZeros place first limit new) next
           (zeros-next place first (first + k) old.count now new c.requires.apart c.loop-k.invariant.zeros (λ line at. c.in_ok-clear_at.ensures.ok line (c.reaching-stretch.ensures.line ∙ at)) (others_along _ _ now new c.reaching-stretch.ensures.line c.in_ok-clear_at.ensures.outside));
+      good = λ line h. c.in_ok-clear_at.ensures.good line (c.loop-k.invariant.good line h);
       others =
           subst (λ limit. WritesBackOthers (IsReached place first limit) old new) next
           (others-next place first (first + k) old now new (omega arith) c.loop-k.invariant.others (others_along _ _ now new c.reaching-stretch.ensures.line c.in_ok-clear_at.ensures.outside));

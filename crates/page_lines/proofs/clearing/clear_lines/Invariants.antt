@@ -1,4 +1,4 @@
-use Rattle.std.proofs.Common.{◌+◌}
+use Rattle.std.proofs.Common.{◌≡◌, ◌+◌, ℕ, false}
 use Rattle.line_device.specs.Panel.{Runs}
 use Rattle.line_device.specs.Panel.Outcome.{went}
 use Rattle.page_lines.specs.Placed.{there_among}
@@ -16,6 +16,7 @@ invariant-loop-k g l =
     record {
       along : IsStretchOf place l.stretch;
       zeros : AreZeros place l.first (l.first + l.k) new.medium;
+      good : (line : ℕ) → old.medium.is_bad line ≡ false → new.medium.is_bad line ≡ false;
       others : WritesBackOthers (IsReached place l.first (l.first + l.k)) old.medium new.medium;
       runs : Runs (there_among place l.first l.k) 0 went old.panel new.panel;
     }

@@ -1,16 +1,18 @@
-use Rattle.std.proofs.Common.{◌≡◌, ◌+◌, ◌-◌, ◌/◌, ℕ, Err, Some, length, length-take, length-drop, take, drop, sym, ap, subst, ◌∙◌, arith}
+use Rattle.std.proofs.Common.{◌≡◌, ◌+◌, ◌-◌, ◌/◌, ℕ, Err, Some, length, length-take, length-drop, take, drop, refl, sym, ap, subst, ◌∙◌, arith}
 use Rattle.std.proofs.lemmas.Result.{err_from_is_err_and}
 use Rattle.nvm_base.specs.declared.units.Span.{Span}
 use Rattle.line_device.specs.Panel.{Runs}
 use Rattle.line_device.proofs.PanelLemmas.{runs-refl, runs_then, runs_within}
 use Rattle.line_device.proofs.WriteBackLemmas.{write_back-refl, write_back-trans}
 use Rattle.line_words.specs.Ending.{ended}
+use Rattle.nvm_model.specs.Numbered.{AreMixed, list_from}
+use Rattle.nvm_model.proofs.MixedLemmas.{mixed-filled}
 use Rattle.page_lines.specs.Placed.{one_there, there_in}
 use Rattle.page_lines.specs.Shown.{before_line, placed_byte}
 use Rattle.page_lines.specs.Stretches.{stretch_place}
 use Rattle.page_lines.proofs.LoadLemmas.{placed-same, placed-write_back}
-use Rattle.page_lines.proofs.BufferLemmas.{filled_none, filled_more}
-use Rattle.page_lines.proofs.SpanLemmas.{touches-among, there_among-next, there_in-next}
+use Rattle.page_lines.proofs.BufferLemmas.{filled_none, filled_more, put_back}
+use Rattle.page_lines.proofs.SpanLemmas.{on_err, touches-among, there_among-next, there_in-next}
 use Rattle.page_lines.proofs.StretchLemmas.{apart_along, placed_along}
 use Rattle.page_lines.proofs.loading.load_lines.Goals as goal
 
@@ -36,6 +38,18 @@ load_at-requires-clause-good g c = λ line at.
     c.loop-k.invariant.lines.bad line
     ∙ c.requires.good n line (touches-among span t n c.lines_of-touched.ensures.value c.requires.some (omega arith) (omega arith))
     (placed_along (g.P.Places.place c.args.places.now) c.reaching-stretch.result c.reaching-stretch.ensures.lines n line (subst (λ i. stretch_place c.reaching-stretch.result i ≡ Some line) is at))
+
+pub returns-in_err-load_at-clause-err : goal.returns-in_err-load_at-clause-err
+returns-in_err-load_at-clause-err g c =
+    let span : Span = record { start = c.args.offset; len = length c.args.out.now } in
+    let t = c.lines_of-touched.result in
+    let byte = placed_byte (g.P.Places.place c.args.places.now) (g.L.Lines.state c.args.dev.now).medium in
+    let first : t.start ≡ span.start / 64 = ap (λ s. s.start) c.lines_of-touched.ensures.value in
+    let count = ap (λ s. s.len) c.lines_of-touched.ensures.value in
+    let same : c.load_at.new.out ≡ take (c.part_in-part.result.start - c.args.offset + c.part_in-part.result.len - (c.part_in-part.result.start - c.args.offset)) (drop (c.part_in-part.result.start - c.args.offset) c.loop-k.out) = c.in_err-load_at.ensures.err in
+    on_err c.from_residual.result
+    (subst (AreMixed ℕ c.args.out.now (list_from byte c.args.offset (length c.args.out.now))) (sym (put_back _ _ c.loop-k.out c.load_at.new.out same))
+    (mixed-filled byte c.args.offset (before_line span (t.start + c.loop-k.k)) (length c.args.out.now) c.args.out.now c.loop-k.out (omega (arith, first, count)) refl c.loop-k.invariant.bytes))
 
 pub returns-in_err-load_at-clause-lines : goal.returns-in_err-load_at-clause-lines
 returns-in_err-load_at-clause-lines g c = write_back-trans _ _ _ c.loop-k.invariant.lines c.in_err-load_at.ensures.lines

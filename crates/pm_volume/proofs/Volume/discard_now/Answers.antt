@@ -1,6 +1,7 @@
 use Rattle.std.proofs.Common.{false, inl, inr, refl, ◌∙◌, ap, subst}
 use Rattle.line_words.proofs.ToldLemmas.{on_worked}
 use Rattle.line_words.specs.Words.{WritesBackOutside}
+use Rattle.line_words.proofs.FrameLemmas.{outside-refl}
 use Rattle.page_lines.proofs.OthersLemmas.{others-refl}
 use Rattle.word_log.specs.Area.{IsOf}
 use Rattle.word_log.specs.Replay.{Replays}
@@ -62,3 +63,6 @@ returns-clause-outside g c =
     let new = (g.L.Lines.state c.switch.new.dev).medium in
     others-outside c.args.self.now.geo old new c.requires.serves.valid
     (subst (λ (t : VolumeState). WritesBackOutside (IsOf (volume_area t.geo)) old new) c.self.view_is c.switch.ensures.outside)
+
+pub returns-in_err-check_discard-clause-beside : goal.returns-in_err-check_discard-clause-beside
+returns-in_err-check_discard-clause-beside g c = outside-refl _ _

@@ -1,6 +1,7 @@
-use Rattle.std.proofs.Common.{◌≡◌, OnOk, true, length, sym, ◌∙◌, subst, arith}
+use Rattle.std.proofs.Common.{◌≡◌, ℕ, OnErr, OnOk, true, length, sym, ◌∙◌, subst, arith}
+use Rattle.std.proofs.lemmas.Result.{on_err_weaker}
 use Rattle.line_device.proofs.PanelLemmas.{runs_within}
-use Rattle.nvm_model.specs.Numbered.{list_from}
+use Rattle.nvm_model.specs.Numbered.{AreMixed, list_from}
 use Rattle.page_lines.specs.Placed.{AreApart}
 use Rattle.page_lines.specs.Shown.{placed_byte}
 use Rattle.pm_volume.specs.Object.{PlacesState, volume_place}
@@ -22,6 +23,14 @@ returns-clause-ok g c =
     on_ok-then c.load_lines.result
     (λ is pages holds. is ∙ shown-look c.args.self.now m pages holds (record { start = c.args.offset; len = length c.args.out.now }) c.requires.readable)
     (subst (λ (l : PlacesState). OnOk c.load_lines.result (c.load_lines.new.out ≡ list_from (placed_byte (volume_place l.geo l.present l.wanted) m) c.args.offset (length c.args.out.now))) c.lines-lines.ensures c.load_lines.ensures.ok)
+
+pub returns-clause-err : goal.returns-clause-err
+returns-clause-err g c =
+    let m = (g.L.Lines.state c.args.dev.now).medium in
+    let len = length c.args.out.now in
+    on_err_weaker c.load_lines.result
+    (λ mixed pages holds. subst (λ bytes. AreMixed ℕ c.args.out.now bytes c.load_lines.new.out) (shown-look c.args.self.now m pages holds (record { start = c.args.offset; len = len }) c.requires.readable) mixed)
+    (subst (λ (l : PlacesState). OnErr c.load_lines.result (AreMixed ℕ c.args.out.now (list_from (placed_byte (volume_place l.geo l.present l.wanted) m) c.args.offset len) c.load_lines.new.out)) c.lines-lines.ensures c.load_lines.ensures.err)
 
 pub returns-clause-runs : goal.returns-clause-runs
 returns-clause-runs g c =

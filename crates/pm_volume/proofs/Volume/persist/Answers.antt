@@ -37,6 +37,12 @@ returns-clause-outside g c =
     turned-outside c.args.self.now old new c.args.span.start c.args.span.len c.requires.serves
     (subst (λ (l : PlacesState). WritesBackOthers (IsPlaced (volume_place l.geo l.present l.wanted) c.args.span.start c.args.span.len) old new) c.lines-lines.ensures c.persist_lines.ensures.outside)
 
+pub returns-clause-beside : goal.returns-clause-beside
+returns-clause-beside g c =
+    let old = (g.L.Lines.state c.args.dev.now).medium in
+    let new = (g.L.Lines.state c.persist_lines.new.dev).medium in
+    subst (λ (l : PlacesState). WritesBackOthers (IsPlaced (volume_place l.geo l.present l.wanted) c.args.span.start c.args.span.len) old new) c.lines-lines.ensures c.persist_lines.ensures.outside
+
 pub returns-clause-metadata : goal.returns-clause-metadata
 returns-clause-metadata g c =
     let old = (g.L.Lines.state c.args.dev.now).medium in

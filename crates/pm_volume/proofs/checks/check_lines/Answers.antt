@@ -2,7 +2,7 @@ use Rattle.std.proofs.Common.{◌&&◌, arith}
 use Rattle.page_lines.specs.Sought.{is_bad_at, is_sought}
 use Rattle.pm_volume.specs.Object.{volume_place}
 use Rattle.pm_volume.proofs.PlaceLemmas.{lines_apart}
-use Rattle.pm_volume.proofs.BadLemmas.{found_small}
+use Rattle.page_lines.proofs.SearchLemmas.{found_small}
 use Rattle.pm_volume.proofs.checks.check_lines.Goals as goal
 
 pub lowest_bad-requires-clause-within : goal.lowest_bad-requires-clause-within

@@ -9,6 +9,6 @@ returns-in_default-clause-reads g c = rw (← c.self.view_is) (record {
   count = omega arith;
   waiting = c.in_default.ensures.fills.1;
   line = refl;
-  brings = (refl, c.if-self.false, c.if-self.false);
+  brings = (refl, c.if-self.false, c.if-self.false, omega arith);
   ends = λ _ ended. absurd (true≢false (sym ended ∙ c.if-self.false));
 })

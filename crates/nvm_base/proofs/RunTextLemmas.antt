@@ -1,36 +1,28 @@
--- Printed DATA is read back.
-use Rattle.std.proofs.Common.{◌≡◌, ◌==◌, ◌&&◌, ℕ, ◌+◌, ◌*◌, ◌/◌, ◌%◌, ◌^◌, ◌<◌, ◌≤◌, Bool, true, false, not, [], ◌∷◌, nat_lt, Some, decimal, refl, sym, ap, arith, rules, tests}
+-- Printed runs are read back.
+use Rattle.std.proofs.Common.{◌≡◌, ◌==◌, ◌||◌, ◌&&◌, ℕ, ◌+◌, ◌*◌, ◌/◌, ◌%◌, ◌^◌, ◌<◌, ◌≤◌, Bool, true, false, [], ◌∷◌, nat_lt, nat_le, Some, decimal, refl, sym, ap, arith, rules, tests}
 use Rattle.std.specs.Char.{digit_value, is_ascii_digit}
 use Rattle.std.specs.Fmt.{digit_glyph}
 use Rattle.std.specs.List.{list_all}
-use Rattle.std.proofs.lemmas.Bool.{and_parts}
 use Rattle.std.proofs.lemmas.Str.{digit_value-digit_char}
 use Rattle.nvm_base.specs.Data.{ByteRun, run, pair_of, item_of, run_text}
-use Rattle.script_text.specs.Script.{is_blank}
-use Rattle.questions.proofs.TextLemmas.{list_all-weaker}
-use Rattle.questions.proofs.DecimalLemmas.{number_of-decimal, decimal-digits}
+use Rattle.nvm_base.proofs.SplitLemmas.{list_all-weaker}
+use Rattle.nvm_base.proofs.DecimalLemmas.{number_of-decimal, decimal-digits}
 
--- neither a comma nor a blank
-abbrev pub is_plain : ℕ → Bool
-is_plain c = not (c == 44) && not (is_blank c)
+-- a digit of 16 in lower case, or `*`
+abbrev pub is_item_byte : ℕ → Bool
+is_item_byte c = is_ascii_digit c || nat_le 97 c && nat_le c 102 || c == 42
 
-pub no_comma : (c : ℕ) → is_plain c ≡ true → not (c == 44) ≡ true
-no_comma c e = (and_parts _ _ e).0
-
-pub no_blank : (c : ℕ) → is_plain c ≡ true → not (is_blank c) ≡ true
-no_blank c e = (and_parts _ _ e).1
-
-plain_digit : (c : ℕ) → is_ascii_digit c ≡ true → is_plain c ≡ true
-plain_digit c e = search (rules, tests)
+item_digit : (c : ℕ) → is_ascii_digit c ≡ true → is_item_byte c ≡ true
+item_digit c e = rw e refl
 
 -- a digit of 16
 glyph-value : (d : ℕ) → d < 16 → digit_value (digit_glyph false d) ≡ d
 glyph-value d small = digit_value-digit_char d (omega arith)
 
-glyph-plain : (d : ℕ) → d < 16 → is_plain (digit_glyph false d) ≡ true
-glyph-plain d small = go (nat_lt d 10) refl
+glyph-item : (d : ℕ) → d < 16 → is_item_byte (digit_glyph false d) ≡ true
+glyph-item d small = go (nat_lt d 10) refl
   where
-    go : (b : Bool) → nat_lt d 10 ≡ b → is_plain (digit_glyph false d) ≡ true
+    go : (b : Bool) → nat_lt d 10 ≡ b → is_item_byte (digit_glyph false d) ≡ true
     go true e = rw (e, digit_glyph) (let low : d < 10 = search (rules, tests) in search (rules, tests))
     go false e = rw (e, digit_glyph) (let high : 10 ≤ d = search (rules, tests) in search (rules, tests))
 
@@ -63,12 +55,12 @@ item_of-run_text r proper small = go (r.count == 1) refl
         let some : nat_lt 0 r.count ≡ true = let low = proper.some in search (rules, tests) in
         rw (e, run_text, pair_of-glyphs r.byte proper.byte, number_of-decimal r.count small, some) refl
 
-pub run_text-plain : (r : ByteRun) → IsProper r → r.count < 2 ^ 32 → list_all is_plain (run_text r) ≡ true
-run_text-plain r proper small =
-    let high = glyph-plain (r.byte / 16) (let b = proper.byte in omega arith) in
-    let low = glyph-plain (r.byte % 16) (omega arith) in
+pub run_text-items : (r : ByteRun) → IsProper r → r.count < 2 ^ 32 → list_all is_item_byte (run_text r) ≡ true
+run_text-items r proper small =
+    let high = glyph-item (r.byte / 16) (let b = proper.byte in omega arith) in
+    let low = glyph-item (r.byte % 16) (omega arith) in
     go (r.count == 1) refl high low
   where
-    go : (b : Bool) → (r.count == 1) ≡ b → is_plain (digit_glyph false (r.byte / 16)) ≡ true → is_plain (digit_glyph false (r.byte % 16)) ≡ true → list_all is_plain (run_text r) ≡ true
+    go : (b : Bool) → (r.count == 1) ≡ b → is_item_byte (digit_glyph false (r.byte / 16)) ≡ true → is_item_byte (digit_glyph false (r.byte % 16)) ≡ true → list_all is_item_byte (run_text r) ≡ true
     go true e high low = rw (e, run_text, high, low) refl
-    go false e high low = rw (e, run_text, high, low) (list_all-weaker is_ascii_digit is_plain plain_digit (decimal r.count) (decimal-digits r.count small))
+    go false e high low = rw (e, run_text, high, low) (list_all-weaker is_ascii_digit is_item_byte item_digit (decimal r.count) (decimal-digits r.count (omega arith)))
