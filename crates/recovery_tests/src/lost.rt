@@ -95,7 +95,7 @@ fn all_counted(alloc: Global, dev: &mut Plain) -> Result<u64, MountFault> {
         dev,
         &mounted.blocks,
         &mounted.volume,
-        mounted.files.journal(),
+        &mounted.files,
     ))
 }
 

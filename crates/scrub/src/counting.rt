@@ -6,29 +6,29 @@ ghost use Rattle.nvm_model.specs.Files.{bad_file_lines};
 ghost use Rattle.nvm_model.specs.Page.{Page, bad_lines};
 ghost use Rattle.nvm_model.specs.Storage.{File};
 ghost use Rattle.block_device.specs.Object.{BlocksServe, blocks_of};
-ghost use Rattle.file_journal.specs.Object.{JournalServes};
 ghost use Rattle.file_journal.specs.Standing.{FilesStand};
+ghost use Rattle.file_pages.specs.Object.{PagesServe};
 ghost use Rattle.pm_volume.specs.Object.{VolumeHolds, VolumeServes};
 ghost use Rattle.marked_lines.specs.Counting.{bad_in_page, has_mark, nth_page};
 
 use block_device::Blocks;
-use file_journal::Journal;
+use file_pages::FilePages;
 use line_device::Lines;
 use marked_lines::{Mark, bad_in_files, count_among};
 use nvm_base::{BLOCK, LINE, PAGE};
 use pm_volume::Volume;
 
 /// How many lines of all that exists are bad.
-pub fn bad_count<L: Lines>(dev: &L, blocks: &Blocks, volume: &Volume, journal: &Journal) -> u64
+pub fn bad_count<L: Lines>(dev: &L, blocks: &Blocks, volume: &Volume, files: &FilePages) -> u64
     requires blocks { BlocksServe blocks.now (L.state dev.now).medium }
     requires volume { VolumeServes volume.now (L.state dev.now).medium }
-    requires journal { JournalServes journal.now (L.state dev.now).medium }
+    requires files { PagesServe files.now (L.state dev.now).medium }
     ensures count { (pages : List Page) → VolumeHolds volume.now (L.state dev.now).medium pages
-        → (files : List File) → FilesStand journal.now.geo (L.state dev.now).medium journal.now.tables files
-        → result ≡ bad_block_lines (blocks_of blocks.now (L.state dev.now).medium) + bad_lines pages + bad_file_lines files }
+        → (all : List File) → FilesStand files.now.journal.geo (L.state dev.now).medium files.now.journal.tables all
+        → result ≡ bad_block_lines (blocks_of blocks.now (L.state dev.now).medium) + bad_lines pages + bad_file_lines all }
     ensures few { result ≤ 114_688 }
 {
-    bad_in_blocks(dev, blocks) + bad_in_volume(dev, volume) + bad_in_files(dev, journal)
+    bad_in_blocks(dev, blocks) + bad_in_volume(dev, volume) + bad_in_files(dev, files.journal())
 }
 
 /// How many lines of blocks that have lines are bad: a scarred block has none.

@@ -77,12 +77,7 @@ impl Performer {
         requires on { self.now.mode ≡ On }
         ensures { (h : Machine) → Stands self.now (D.state device.now) h → result ≡ bad_of h }
     {
-        bad_count(
-            device,
-            &self.blocks,
-            &self.volume,
-            self.files.pages.journal(),
-        )
+        bad_count(device, &self.blocks, &self.volume, &self.files.pages)
     }
 
     // What a clear is answered, and the mode after it.

@@ -96,12 +96,7 @@ impl Performer {
         ensures state { self.new ≡ record self.old { mode = On; blocks = mounted.blocks; volume = mounted.volume; files = just_mounted mounted.files mounted.events } }
         ensures answer { CountsBad mounted.blocks mounted.volume mounted.files.journal (D.state device.now).medium (answer_of result) }
     {
-        let bad = bad_count(
-            device,
-            &mounted.blocks,
-            &mounted.volume,
-            mounted.files.journal(),
-        );
+        let bad = bad_count(device, &mounted.blocks, &mounted.volume, &mounted.files);
         self.take(mounted);
         Reply::DoneBad(bad)
     }

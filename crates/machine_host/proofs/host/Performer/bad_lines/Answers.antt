@@ -11,5 +11,5 @@ pub returns : goal.returns
 returns g c = λ h stands.
     let m = (g.D.Lines.state c.args.device.now).medium in
     c.bad_count.ensures.count h.volume (subst (λ k. VolumeHolds k.volume m h.volume) (sym c.self.view_is) (stands.volume c.requires.on))
-    h.files (subst (λ j. FilesStand j.geo m j.tables h.files) (sym (c.journal.ensures ∙ ap (λ k. k.files.pages.journal) c.self.view_is)) (stands.files c.requires.on))
+    h.files (subst (λ j. FilesStand j.geo m j.tables h.files) (sym (ap (λ k. k.files.pages.journal) c.self.view_is)) (stands.files c.requires.on))
     ∙ ap (λ bs. bad_block_lines bs + bad_lines h.volume + bad_file_lines h.files) (ap (λ k. blocks_of k.blocks m) c.self.view_is ∙ stands.blocks c.requires.on)
