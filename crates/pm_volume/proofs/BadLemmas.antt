@@ -75,4 +75,3 @@ module _ (s : VolumeState) (m : Medium) (pages : List Page) (holds : VolumeHolds
     where
       same : (n : ℕ) → (not (covers span.start span.len n) && is_bad_at m (volume_place s.geo s.present true n)) ≡ (is_bad_cell (cell_of pages n) && not (covers span.start span.len n))
       same n = and_comm (not (covers span.start span.len n)) (is_bad_at m (volume_place s.geo s.present true n)) ∙ ap (λ b. b && not (covers span.start span.len n)) (bad_at n)
-

@@ -91,12 +91,7 @@ fn bad_lines_of_files_are_counted(rt: HostRuntime) -> Result<(), Fail> {
 // How many bad lines blocks, volume and files have after a cut.
 fn all_counted(alloc: Global, dev: &mut Plain) -> Result<u64, MountFault> {
     let mounted = start(alloc, dev, Choice::Lasts)?;
-    Ok(bad_count(
-        dev,
-        &mounted.blocks,
-        &mounted.volume,
-        &mounted.files,
-    ))
+    Ok(bad_count(dev, &mounted.blocks, &mounted.volume, &mounted.files))
 }
 
 #[test]
