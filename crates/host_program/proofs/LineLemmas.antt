@@ -11,7 +11,8 @@ use Rattle.script_text.specs.Script.{Input, line_input}
 use Rattle.script_text.specs.Script.Input.{Skipped, Malformed, Overlong, Asked}
 use Rattle.machine_host.specs.Machine.{Machine}
 use Rattle.machine_host.specs.Run.{Hears, answered, silence}
-use Rattle.machine_host.specs.Stands.{HostState, Stands, Steps}
+use Rattle.machine_host.specs.Stands.{HostState, Stands}
+use Rattle.machine_host.specs.Responding.{Steps}
 use Rattle.machine_host.proofs.RunLemmas.{tells_silence}
 use Rattle.machine_host.proofs.TellingLemmas.{tells_nothing}
 use Rattle.host_program.specs.Running.{LineGoes}
@@ -53,9 +54,9 @@ pub overlong-line : (line : List ℕ) → 65536 < length line → line_input lin
 unfolding line_input
 overlong-line line long = grind (arith, nat_tests)
 
-pub line_goes-asked : (h : Machine) (input : Input) (action : Action) (out out' : List ℕ) (host : HostState) (old new : Device) → input ≡ Asked action
-    → Steps h action out out' host old new → LineGoes h input out out' host old new
-line_goes-asked h input action out out' host old new is steps = subst (λ i. LineGoes h i out out' host old new) (sym is) (record {
+pub line_goes-asked : (h : Machine) (input : Input) (action : Action) (out out' : List ℕ) (before host : HostState) (old new : Device) → input ≡ Asked action
+    → Steps h action out out' before host old new → LineGoes h input out out' host old new
+line_goes-asked h input action out out' before host old new is steps = subst (λ i. LineGoes h i out out' host old new) (sym is) (record {
   said = steps.comes.said;
   next = steps.comes.next;
   hears = steps.comes.takes;

@@ -8,7 +8,7 @@ pub returns-in-Ok-None-clause-goes : goal.returns-in-Ok-None-clause-goes
 returns-in-Ok-None-clause-goes g c h stands = line_goes-skipped h _ _ _ _ (rw c.in-Ok-None.field-0-is at c.in-Ok-None.ensures.input) stands
 
 pub returns-in-Ok-Some-clause-goes : goal.returns-in-Ok-Some-clause-goes
-returns-in-Ok-Some-clause-goes g c = IfOk-weaker c.step.result _ _ (λ _ step h stands. line_goes-asked h _ (action_of c.in-Ok-Some.command) _ _ _ _ _ (rw c.in-Ok-Some.field-0-is at c.in-Ok-Some.ensures.input) (step h stands)) c.step.ensures.step
+returns-in-Ok-Some-clause-goes g c = IfOk-weaker c.step.result _ _ (λ _ step h stands. line_goes-asked h _ (action_of c.in-Ok-Some.command) _ _ _ _ _ _ (rw c.in-Ok-Some.field-0-is at c.in-Ok-Some.ensures.input) (step h stands)) c.step.ensures.step
 
 pub returns-in-Err-Syntax-clause-goes : goal.returns-in-Err-Syntax-clause-goes
 returns-in-Err-Syntax-clause-goes g c = IfOk-weaker c.print.result _ _ (λ _ line h stands. line_goes-malformed h _ _ _ _ _ (rw c.in-Err-Syntax.field-0-is at c.in-Err-Syntax.ensures.input) stands line) c.print.ensures.ok
