@@ -8,6 +8,10 @@ pub mod BlockToldLemmas
 pub mod SeenLemmas
 pub mod AskedLemmas
 pub mod UnitLemmas
+pub mod HeldPlaceLemmas
+pub mod AsideLemmas
+pub mod CoverLemmas
+pub mod ThereLemmas
 pub mod FilesToldLemmas
 pub mod FilesLemmas
 pub mod SidesLemmas

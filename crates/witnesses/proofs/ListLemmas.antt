@@ -1,7 +1,7 @@
 -- Tests over lists, and their items.
-use Rattle.std.proofs.Common.{◌≡◌, ◌⊎◌, inl, inr, ℕ, zero, suc, ◌+◌, ◌<◌, ◌≤◌, Bool, true, false, cond, ◌&&◌, ◌||◌, List, [], ◌∷◌, ◌++◌, map, flat_map, Some, find, unwrap_or, length, take, get_or, refl, sym, ap, ◌∙◌, arith, append-nil, append_assoc}
+use Rattle.std.proofs.Common.{◌≡◌, ◌⊎◌, inl, inr, ℕ, zero, suc, ◌+◌, ◌<◌, ◌≤◌, ◌==◌, not, Bool, true, false, cond, ◌&&◌, ◌||◌, List, [], ◌∷◌, ◌++◌, map, flat_map, Some, find, unwrap_or, length, take, get_or, refl, sym, ap, subst, ◌∙◌, arith, append-nil, append_assoc}
 use Rattle.std.specs.List.{list_all, list_any, range_with_len}
-use Rattle.std.proofs.lemmas.Bool.{and_from, and_parts, cases_lt, or_left, or_right}
+use Rattle.std.proofs.lemmas.Bool.{and_from, and_parts, cases_lt, eqb-true, or_left, or_right}
 use Rattle.std.proofs.lemmas.Grind.{flat_map-append}
 use Rattle.std.proofs.lemmas.List.Folds.{list_all-append}
 use Rattle.std.proofs.lemmas.List.{map-append, take_more}
@@ -11,11 +11,7 @@ use Rattle.cut_places.specs.Outcomes.Files.{reads_of}
 use Rattle.cut_places.specs.Outcomes.Pages.{PageRead}
 use Rattle.cut_places.specs.AskedReads.Reads.{file_reads_asked, page_read}
 use Rattle.cut_places.specs.AskedReads.declared.reads.FileRead.{FileRead as Asked}
-
--- x is one of them
-abbrev pub IsAmong : {A : Type 0} → A → List A → Type 0
-IsAmong x [] = ⊥
-IsAmong x (y ∷ ys) = (x ≡ y) ⊎ IsAmong x ys
+pub use Rattle.witnesses.specs.Keeping.{IsAmong}
 
 -- what all pass each of them passes, and back
 pub all_of : {A : Type 0} (f : A → Bool) (x : A) (xs : List A) → list_all f xs ≡ true → IsAmong x xs → f x ≡ true
@@ -37,6 +33,14 @@ pub among_last : {A : Type 0} (x : A) (xs ys : List A) → IsAmong x ys → IsAm
 among_last x [] ys is = is
 among_last x (y ∷ xs) ys is = inr (among_last x xs ys is)
 
+pub among_parts : {A : Type 0} (x : A) (xs ys : List A) → IsAmong x (xs ++ ys) → IsAmong x xs ⊎ IsAmong x ys
+among_parts x [] ys is = inr is
+among_parts x (y ∷ xs) ys (inl same) = inl (inl same)
+among_parts x (y ∷ xs) ys (inr later) = elim (among_parts x xs ys later) as (λ _. IsAmong x (y ∷ xs) ⊎ IsAmong x ys) [
+  | inl here ↦ inl (inr here)
+  | inr there ↦ inr there
+]
+
 -- each of them is among those that they become
 pub among_map : {A B : Type 0} (f : A → B) (x : A) (xs : List A) → IsAmong x xs → IsAmong (f x) (map f xs)
 among_map f x [] is = absurd is
@@ -48,6 +52,14 @@ pub pushed : {A B : Type 0} (f : A → B) (xs : List A) (i : ℕ) (x : A) (y : B
     → new ≡ map f (take (i + 1) xs)
 pushed f xs i x y old new lt is was pushes made =
     pushes ∙ ap (λ ys. ys ++ y ∷ []) was ∙ ap (λ z. map f (take i xs) ++ z ∷ []) (made ∙ ap f is) ∙ sym (map-append f (take i xs) (get_or xs i x ∷ [])) ∙ sym (ap (map f) (take_more xs i x lt))
+
+-- and made something by what it is made
+pub pushed_of : {A B C : Type 0} (f : B → C) (g : A → B) (xs : List A) (i : ℕ) (x : A) (y : C) (old new : List C) → i < length xs → x ≡ get_or xs i x → old ≡ map f (map g (take i xs)) → new ≡ old ++ y ∷ []
+    → y ≡ f (g x) → new ≡ map f (map g (take (i + 1) xs))
+pushed_of f g xs i x y old new lt is was pushes made =
+    pushes ∙ ap (λ ys. ys ++ y ∷ []) was ∙ ap (λ z. map f (map g (take i xs)) ++ z ∷ []) (made ∙ ap (λ z. f (g z)) is)
+    ∙ sym (map-append f (map g (take i xs)) (map g (get_or xs i x ∷ []))) ∙ sym (ap (map f) (map-append g (take i xs) (get_or xs i x ∷ [])))
+    ∙ sym (ap (λ ys. map f (map g ys)) (take_more xs i x lt))
 
 -- of items that are made something, each passes; and one more of them made a list
 pub item_passes : {A B : Type 0} (test : B → Bool) (f : A → B) (xs : List A) (i : ℕ) (x : A) → i < length xs → x ≡ get_or xs i x → list_all test (map f xs) ≡ true → test (f x) ≡ true
@@ -127,3 +139,35 @@ any_of_file f name (r ∷ reads) = by_name (bytes_eq r.name name) (any_of_file f
         ≡ list_any f (cond b (page_read r.pages ∷ reads_of name (file_reads_asked reads)) (reads_of name (file_reads_asked reads)))
     by_name true rest = ap (λ b. f (page_read r.pages) || b) rest
     by_name false rest = rest
+
+-- whether a number is among them
+pub among_or_not : (n : ℕ) (ns : List ℕ) → IsAmong n ns ⊎ (list_all (λ m. not (m == n)) ns ≡ true)
+among_or_not n [] = inr refl
+among_or_not n (m ∷ ns) = by_first (m == n) refl (among_or_not n ns)
+  where
+    by_first : (b : Bool) → (m == n) ≡ b → IsAmong n ns ⊎ (list_all (λ k. not (k == n)) ns ≡ true) → IsAmong n (m ∷ ns) ⊎ ((not b && list_all (λ k. not (k == n)) ns) ≡ true)
+    by_first true is rest = inl (inl (sym (eqb-true m n is)))
+    by_first false is (inl later) = inl (inr later)
+    by_first false is (inr none) = inr none
+
+-- one of those that become numbers
+pub among_numbers : {A : Type 0} (number : A → ℕ) (n : ℕ) (xs : List A) → IsAmong n (map number xs) → (x : A) × IsAmong x xs × (number x ≡ n)
+among_numbers number n [] is = absurd is
+among_numbers number n (x ∷ xs) (inl same) = (x, inl refl, sym same)
+among_numbers number n (x ∷ xs) (inr later) = let rest = among_numbers number n xs later in (rest.0, inr rest.1, rest.2)
+
+-- some of them have these numbers, in this order
+pub some_of : {A : Type 0} (number : A → ℕ) (xs : List A) (ns : List ℕ) → ((n : ℕ) → IsAmong n ns → IsAmong n (map number xs))
+    → (some : List A) × (map number some ≡ ns) × ((x : A) → IsAmong x some → IsAmong x xs)
+some_of number xs [] each = ([], refl, λ x is. absurd is)
+some_of number xs (n ∷ ns) each = (first.0 ∷ later.0, ap (λ m. m ∷ map number later.0) first.2 ∙ ap (λ ms. n ∷ ms) later.1, by_place)
+  where
+    first : (x : A) × IsAmong x xs × (number x ≡ n)
+    first = among_numbers number n xs (each n (inl refl))
+
+    later : (some : List A) × (map number some ≡ ns) × ((x : A) → IsAmong x some → IsAmong x xs)
+    later = some_of number xs ns (λ m is. each m (inr is))
+
+    by_place : (x : A) → IsAmong x (first.0 ∷ later.0) → IsAmong x xs
+    by_place x (inl same) = subst (λ y. IsAmong y xs) (sym same) first.1
+    by_place x (inr is) = later.2 x is
