@@ -10,10 +10,10 @@ use Rattle.outcome_lists.specs.Lists.{place_text}
 use Rattle.program_base.specs.Ending.{line}
 use Rattle.outcome_lists.specs.Witnesses.Texts.{kept_text}
 
--- of one question: never, or the first place of a cut that may leave it, and what it keeps then
+-- of one question: never, or the first place of a cut that may leave it, and what it keeps then of all at which the look's reads look
 abbrev pub answer_line : List Seen → Option Found → List ℕ
-answer_line look None = line (codes "never")
-answer_line look (Some found) = codes "may " ++ (place_text found.place ++ line (kept_text (volume_reads look) (file_reads look) found.kept))
+answer_line all None = line (codes "never")
+answer_line all (Some found) = codes "may " ++ (place_text found.place ++ line (kept_text (volume_reads all) (file_reads all) found.kept))
 
 -- whether a question is answered otherwise than it is to be
 abbrev pub is_missed : {A : Type 0} → Wanted → Option A → Bool

@@ -13,13 +13,13 @@ use outcome_lists::witness::kept_text;
 use program_base::plain_line;
 use std::alloc::{AllocError, Global};
 
-/// Whether what was asked is never found, or where a cut leaves it first, and what it keeps then.
+/// Whether what was asked is never found, or where a cut leaves it first, and what it keeps then of all that is looked at.
 pub fn answer_line(
     alloc: Global,
-    question: &Question,
+    looked: &Question,
     found: &Option<Found>,
 ) -> Result<Bytes, AllocError>
-    ensures { (look : List Seen) → IsLook look question.now → IfOk result (λ line. line.items ≡ answer_line look found.now) }
+    ensures { (all : List Seen) → IsLook all looked.now → IfOk result (λ line. line.items ≡ answer_line all found.now) }
 {
     let Some(found) = found else {
         return plain_line(alloc, b"never");
@@ -27,7 +27,7 @@ pub fn answer_line(
     let mut line = Bytes::new(alloc);
     line.extend(b"may ")?;
     print_place(found.place, &mut line)?;
-    let kept = kept_text(alloc, question, &found.kept)?;
+    let kept = kept_text(alloc, looked, &found.kept)?;
     line.extend(kept.as_slice())?;
     line.push(b'\n')?;
     Ok(line)

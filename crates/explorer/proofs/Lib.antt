@@ -7,6 +7,7 @@ pub mod UntoldLemmas
 pub mod ChoiceLemmas
 pub mod MarkLemmas
 pub mod FileMarkLemmas
+mod SizeMarkLemmas
 pub mod SoundLemmas
 pub mod KeptLemmas
 pub mod FoundLemmas

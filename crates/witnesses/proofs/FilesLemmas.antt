@@ -195,7 +195,7 @@ module _ (asked : List FileRead) (now made left : FilesState) where
 module _ (h : Machine) (inside : Option Action) (s : FilesState) (asked looked : List FileRead) (settled : h.interrupted ≡ None) (sees : SeesFiles s h) (complete : IsComplete h) (reached : IsReached h inside)
     (covers : (place : List ℕ × ℕ) → IsAmong place (places_read asked) → IsAmong place (places_read looked))
     (held : are_held s.numbers looked ≡ true) (fit : fit_there (option_map (files_change s.mappings.mappings) inside) asked s ≡ true)
-    (words : (name : List ℕ) (n : ℕ) (line : Cell) → line_there n (file_of name_seen name (left_there inside asked s).files) ≡ Some line → HasEach line) where
+    (words : (name : List ℕ) (n : ℕ) (line : Cell) → is_held s.numbers n ≡ true → line_there n (file_of name_seen name (left_there inside asked s).files) ≡ Some line → HasEach line) where
   abbrev change : Option FilesChange
   change = option_map (files_change s.mappings.mappings) inside
 

@@ -307,7 +307,7 @@ filter_among test n (m ∷ ns) is = by_test (test m) refl is
 module _ (asked looked : List FileRead) (numbers : List ℕ) (files : List FileState) (fit : reads_pass (now_fits asked) asked files ≡ true)
     (covers : (place : List ℕ × ℕ) → IsAmong place (places_read asked) → IsAmong place (places_read looked))
     (held : are_held numbers looked ≡ true) (have : AllHaveLines numbers files)
-    (words : (name : List ℕ) (n : ℕ) (line : Cell) → line_there n (file_of name_seen name files) ≡ Some line → HasEach line) where
+    (words : (name : List ℕ) (n : ℕ) (line : Cell) → is_held numbers n ≡ true → line_there n (file_of name_seen name files) ≡ Some line → HasEach line) where
   abbrev tale : List FileRead
   tale = told_of asked files looked ++ sizes_of asked files looked
 
@@ -392,7 +392,7 @@ module _ (asked looked : List FileRead) (numbers : List ℕ) (files : List FileS
         by_asked : IsAmong n (all_lines_read rs) ⊎ (list_all (λ m. not (m == n)) (all_lines_read rs) ≡ true) → cell_fits rs n (f n) ≡ true
         by_asked (inl among) =
             let one = read_among name asked n among in all_of (λ m. cell_fits rs m (f m)) n (lines_of_read one.0.pages) (lines_fit one.0 one.1 one.2) one.3
-        by_asked (inr out) = line_aside n (4096 * x.pages) rs (own_replies asked (λ r is. is)) out (f n) (words name n (f n) there)
+        by_asked (inr out) = line_aside n (4096 * x.pages) rs (own_replies asked (λ r is. is)) out (f n) (words name n (f n) own there)
 
     all_fit : (n : ℕ) → IsAmong n ns → cell_fits rs n (f n) ≡ true
     all_fit n among = let parts = filter_among (λ n. nat_lt (n / 64) x.pages) n (all_lines_read (reads_of name looked)) among in there_fits n (looked_held n parts.0) parts.1

@@ -1,5 +1,5 @@
 -- What is looked at where a cut falls, so that a cut there may leave all that is kept of it with what a question asks.
-use Rattle.std.specs.Prelude.{◌≡◌, ◌⊎◌, ◌≤◌, ◌<◌, ℕ, List, [], ◌∷◌, length, slice_index_or, Option, Some}
+use Rattle.std.specs.Prelude.{◌≡◌, ◌⊎◌, ◌≤◌, ◌<◌, ℕ, true, List, [], ◌∷◌, length, slice_index_or, Option, Some}
 use Rattle.word_tables.specs.declared.geometry.Geometry.{Geometry}
 use Rattle.nvm_model.specs.Cell.{Cell}
 use Rattle.nvm_model.specs.Cell.Cell.{Bad, Kept}
@@ -12,6 +12,7 @@ use Rattle.cut_places.specs.AskedReads.declared.question.Question.{Question}
 use Rattle.cut_places.specs.SightsSeen.declared.line_seen.LineSeen.{LineSeen}
 use Rattle.cut_places.specs.declared.sight.Sight.{Sight}
 use Rattle.cut_places.specs.FilesState.{name_seen}
+use Rattle.cut_places.specs.SeesFiles.{is_held}
 use Rattle.cut_places.specs.Following.{IsWhole, IsWithin}
 use Rattle.witnesses.specs.Files.{left_there, line_there, places_read}
 use Rattle.witnesses.specs.Lines.{line_mixed}
@@ -38,4 +39,5 @@ pub record LooksThere (geo : Geometry) (inside : Option Action) (q looked : Ques
   pub within : IsWithin now geo
   pub covers : Covers q looked
   pub words : (s : LineSeen) → IsAmong s now.lines.items → HasEach s.line × HasEach (line_mixed geo inside s).line
-  pub file_words : (name : List ℕ) (n : ℕ) (line : Cell) → line_there n (file_of name_seen name (left_there inside (files_asked q) now.files).files) ≡ Some line → HasEach line
+  pub file_words : (name : List ℕ) (n : ℕ) (line : Cell) → is_held now.files.numbers n ≡ true
+      → line_there n (file_of name_seen name (left_there inside (files_asked q) now.files).files) ≡ Some line → HasEach line
