@@ -7,7 +7,6 @@ use Rattle.std.proofs.lemmas.List.Folds.{list_all-append}
 use Rattle.nvm_model.specs.Cell.{Cell, touches}
 use Rattle.nvm_model.specs.Cell.Cell.{Bad, Kept}
 use Rattle.nvm_model.specs.Numbered.{is_among}
-use Rattle.page_lines.proofs.LoopLemmas.{within-touches}
 use Rattle.block_sights.specs.Sights.{Sight}
 use Rattle.reply_text.specs.declared.reply.Why.{Why}
 use Rattle.cut_places.specs.MachineModel.Meaning.{most_refusal}
@@ -20,6 +19,14 @@ use Rattle.cut_places.specs.AskedReads.Fitting.{cell_fits, sight_allows, sight_f
 use Rattle.cut_places.proofs.AllLemmas.{one_of_range}
 use Rattle.witnesses.specs.Keeping.{HasEach}
 use Rattle.witnesses.proofs.ListLemmas.{range_all}
+
+-- a line that a read touches is one at which it looks
+touched_at : (start len n : ℕ) → 1 ≤ len → touches start len n ≡ true → (start / 64 ≤ n) × (n < start / 64 + ((start + len - 1) / 64 + 1 - start / 64))
+touched_at start len n some is =
+    let parts = and_parts (nat_lt start (64 * n + 64)) (nat_lt (64 * n) (start + len)) is in
+    let low = ltb-true start (64 * n + 64) parts.0 in
+    let high = ltb-true (64 * n) (start + len) parts.1 in
+    (omega (arith, low), omega (arith, low, high, some))
 
 -- where a list has a value, and each value passes
 some_passes : (f : ℕ → Bool) (xs : List ℕ) → 1 ≤ length xs → ((x : ℕ) → f x ≡ true) → list_any f xs ≡ true
@@ -43,7 +50,7 @@ module _ (n : ℕ) where
       where
         by_touch : (b : Bool) → touches start len n ≡ b → b ≡ false
         by_touch true is =
-            let at = within-touches start len n some is in absurd (out_of_range (start / 64) ((start + len - 1) / 64 + 1 - start / 64) out at.0 at.1)
+            let at = touched_at start len n some is in absurd (out_of_range (start / 64) ((start + len - 1) / 64 + 1 - start / 64) out at.0 at.1)
         by_touch false is = refl
 
     aside_good : (at : ℕ) → touches start len (at / 64) ≡ true → not (n == at / 64) ≡ true

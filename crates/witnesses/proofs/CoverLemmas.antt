@@ -55,19 +55,19 @@ module _ {A : Type 0} (f g : A → Bool) (page : A → ℕ) (some all : List A) 
     where
       by_page : ((t : A) × IsAmong t some × (page t ≡ k)) ⊎ (list_all (λ v. not (page v == k) || f v) some ≡ true) → group_passes some k ≡ true
       by_page (inl one) = subst (λ n. group_passes some n ≡ true) one.2 (all_of (λ u. group_passes some (page u)) one.0 some passes one.1)
-      by_page (inr none) = or_left _ _ none
+      by_page (inr none) = or_left (list_all (λ v. not (page v == k) || f v) some) (list_all (λ v. not (page v == k) || g v) some) none
 
   group_all : (k : ℕ) → group_passes some k ≡ true → group_passes all k ≡ true
-  group_all k passes = elim (or_cases _ _ passes) as (λ _. group_passes all k ≡ true) [
-    | inl now ↦ or_left _ _ (all_from (λ v. not (page v == k) || f v) all (λ u is. group_now k u (each u is) now))
-    | inr then ↦ or_right _ _ (all_from (λ v. not (page v == k) || g v) all (λ u is. group_then k u (each u is) then))
+  group_all k passes = elim (or_cases (list_all (λ v. not (page v == k) || f v) some) (list_all (λ v. not (page v == k) || g v) some) passes) as (λ _. group_passes all k ≡ true) [
+    | inl now ↦ or_left (list_all (λ v. not (page v == k) || f v) all) (list_all (λ v. not (page v == k) || g v) all) (all_from (λ v. not (page v == k) || f v) all (λ u is. group_now k u (each u is) now))
+    | inr then ↦ or_right (list_all (λ v. not (page v == k) || f v) all) (list_all (λ v. not (page v == k) || g v) all) (all_from (λ v. not (page v == k) || g v) all (λ u is. group_then k u (each u is) then))
   ]
 
   pub covered : (way : Option Way) → passes_inside way f g page some ≡ true → passes_inside way f g page all ≡ true
   covered None passes = all_from f all (λ u is. one_now u (each u is) passes)
   covered (Some Each) passes = all_from (λ u. f u || g u) all (λ u is. one_either u (each u is) passes)
-  covered (Some Together) passes = elim (or_cases _ _ passes) as (λ _. (list_all f all || list_all g all) ≡ true) [
-    | inl now ↦ or_left _ _ (all_from f all (λ u is. one_now u (each u is) now))
-    | inr then ↦ or_right _ _ (all_from g all (λ u is. one_then u (each u is) then))
+  covered (Some Together) passes = elim (or_cases (list_all f some) (list_all g some) passes) as (λ _. (list_all f all || list_all g all) ≡ true) [
+    | inl now ↦ or_left (list_all f all) (list_all g all) (all_from f all (λ u is. one_now u (each u is) now))
+    | inr then ↦ or_right (list_all f all) (list_all g all) (all_from g all (λ u is. one_then u (each u is) then))
   ]
   covered (Some ByPage) passes = all_from (λ u. group_passes all (page u)) all (λ u is. group_all (page u) (group_some (page u) passes))

@@ -35,6 +35,7 @@ use Rattle.witnesses.specs.Places.{IsReached, state_at}
 use Rattle.witnesses.specs.Sizes.{has_line, is_before_end, names_of_sizes, names_read, pages_in, pages_of, size_read}
 use Rattle.witnesses.specs.Telling.{file_told, size_told}
 use Rattle.witnesses.proofs.FilesToldLemmas.{both_fit, both_held, line_found, sizes_of, there_told, told_of}
+use Rattle.witnesses.proofs.HeldPlaceLemmas.{spot}
 use Rattle.witnesses.proofs.ListLemmas.{IsAmong, all_of}
 
 -- a cut may leave all that is asked where nothing is
@@ -97,14 +98,17 @@ module _ (asked : List FileRead) (now made left : FilesState) where
     abbrev sizes : List SizeKept
     sizes = map (size_read now made left) looked
 
+    abbrev kept_one : FileRead → ℕ → Option Cell → List FileLineKept
+    kept_one r n o = line_kept_in asked r.name n (file_of name_seen r.name now.files) (file_of name_seen r.name made.files) o
+
     -- whether it is there, by the lengths that are kept
     by_sizes : (name : List ℕ) (n : ℕ) (some : List FileRead) (b : Bool) → is_before_end n (pages_of left name) ≡ b
-        → (list_any (λ (r : FileRead). bytes_eq r.name name) some ≡ true → has_line (map (size_read now made left) some) (name, n) ≡ b)
+        → (list_any (λ (r : FileRead). bytes_eq r.name name) some ≡ true → has_line (map (size_read now made left) some) (spot name n) ≡ b)
     by_sizes name n [] b is any = cc any
     by_sizes name n (r ∷ some) b is any = by_name (bytes_eq r.name name) refl any (by_sizes name n some b is)
       where
-        others : (c : Bool) → list_any (λ (r : FileRead). bytes_eq r.name name) some ≡ c → (list_any (λ (r : FileRead). bytes_eq r.name name) some ≡ true → has_line (map (size_read now made left) some) (name, n) ≡ b)
-            → (b || has_line (map (size_read now made left) some) (name, n)) ≡ b
+        others : (c : Bool) → list_any (λ (r : FileRead). bytes_eq r.name name) some ≡ c → (list_any (λ (r : FileRead). bytes_eq r.name name) some ≡ true → has_line (map (size_read now made left) some) (spot name n) ≡ b)
+            → (b || has_line (map (size_read now made left) some) (spot name n)) ≡ b
         others true at rest = ap (λ c. b || c) (rest at) ∙ twice b
           where
             twice : (b : Bool) → (b || b) ≡ b
@@ -116,21 +120,21 @@ module _ (asked : List FileRead) (now made left : FilesState) where
             or_false true = refl
             or_false false = refl
 
-            none_of : (some : List FileRead) → list_any (λ (r : FileRead). bytes_eq r.name name) some ≡ false → has_line (map (size_read now made left) some) (name, n) ≡ false
+            none_of : (some : List FileRead) → list_any (λ (r : FileRead). bytes_eq r.name name) some ≡ false → has_line (map (size_read now made left) some) (spot name n) ≡ false
             none_of [] at = refl
             none_of (q ∷ some) at = by_first (bytes_eq q.name name) at (none_of some)
               where
                 by_first : (c : Bool) → (c || list_any (λ (r : FileRead). bytes_eq r.name name) some) ≡ false
-                    → (list_any (λ (r : FileRead). bytes_eq r.name name) some ≡ false → has_line (map (size_read now made left) some) (name, n) ≡ false)
-                    → ((c && is_before_end n (pages_of left q.name)) || has_line (map (size_read now made left) some) (name, n)) ≡ false
+                    → (list_any (λ (r : FileRead). bytes_eq r.name name) some ≡ false → has_line (map (size_read now made left) some) (spot name n) ≡ false)
+                    → ((c && is_before_end n (pages_of left q.name)) || has_line (map (size_read now made left) some) (spot name n)) ≡ false
                 by_first true at rest = cc at
                 by_first false at rest = rest at
 
         by_name : (c : Bool) → bytes_eq r.name name ≡ c → (c || list_any (λ (r : FileRead). bytes_eq r.name name) some) ≡ true
-            → (list_any (λ (r : FileRead). bytes_eq r.name name) some ≡ true → has_line (map (size_read now made left) some) (name, n) ≡ b)
-            → ((c && is_before_end n (pages_of left r.name)) || has_line (map (size_read now made left) some) (name, n)) ≡ b
+            → (list_any (λ (r : FileRead). bytes_eq r.name name) some ≡ true → has_line (map (size_read now made left) some) (spot name n) ≡ b)
+            → ((c && is_before_end n (pages_of left r.name)) || has_line (map (size_read now made left) some) (spot name n)) ≡ b
         by_name true same at rest =
-            ap (λ c. c || has_line (map (size_read now made left) some) (name, n)) (ap (λ text. is_before_end n (pages_of left text)) ((bytes_eq-Decides r.name name).0 same) ∙ is)
+            ap (λ c. c || has_line (map (size_read now made left) some) (spot name n)) (ap (λ text. is_before_end n (pages_of left text)) ((bytes_eq-Decides r.name name).0 same) ∙ is)
             ∙ others (list_any (λ (r : FileRead). bytes_eq r.name name) some) refl rest
         by_name false other at rest = rest at
 
@@ -142,40 +146,35 @@ module _ (asked : List FileRead) (now made left : FilesState) where
 
     by_line : (r : FileRead) → IsAmong r looked → (n : ℕ) → is_held numbers n ≡ true
         → map place_of (line_kept_in asked r.name n (file_of name_seen r.name now.files) (file_of name_seen r.name made.files) (line_there n (file_of name_seen r.name left.files)))
-        ≡ filter (has_line sizes) ((r.name, n) ∷ [])
+        ≡ filter (has_line sizes) ((spot r.name n) ∷ [])
     by_line r is n own =
         by_file (file_of name_seen r.name left.files) refl
-        ∙ sym (ap (λ b. cond b ((r.name, n) ∷ []) []) (by_sizes r.name n looked (is_before_end n (pages_of left r.name)) refl (named r.name looked r is refl)))
+        ∙ sym (ap (λ b. cond b ((spot r.name n) ∷ []) []) (by_sizes r.name n looked (is_before_end n (pages_of left r.name)) refl (named r.name looked r is refl)))
       where
-        kept : Option Cell → List FileLineKept
-        kept o = line_kept_in asked r.name n (file_of name_seen r.name now.files) (file_of name_seen r.name made.files) o
-
-        by_file : (o : Option FileState) → file_of name_seen r.name left.files ≡ o → map place_of (kept (line_there n (file_of name_seen r.name left.files)))
-            ≡ cond (is_before_end n (pages_of left r.name)) ((r.name, n) ∷ []) []
-        unfolding kept
+        by_file : (o : Option FileState) → file_of name_seen r.name left.files ≡ o → map place_of (kept_one r n (line_there n (file_of name_seen r.name left.files)))
+            ≡ cond (is_before_end n (pages_of left r.name)) ((spot r.name n) ∷ []) []
         by_file None none =
-            ap (λ o. map place_of (kept (line_there n o))) none ∙ sym (ap (λ o. cond (is_before_end n (pages_in o)) ((r.name, n) ∷ []) []) none)
+            ap (λ o. map place_of (kept_one r n (line_there n o))) none ∙ sym (ap (λ o. cond (is_before_end n (pages_in o)) ((spot r.name n) ∷ []) []) none)
         by_file (Some x) found =
-            ap (λ o. map place_of (kept (line_there n o))) found ∙ by_page (nat_lt (n / 64) x.pages) ∙ sym (ap (λ o. cond (is_before_end n (pages_in o)) ((r.name, n) ∷ []) []) found)
+            ap (λ o. map place_of (kept_one r n (line_there n o))) found ∙ by_page (nat_lt (n / 64) x.pages) ∙ sym (ap (λ o. cond (is_before_end n (pages_in o)) ((spot r.name n) ∷ []) []) found)
           where
             has : HasLines numbers x
             has = have r.name x found
 
-            by_page : (b : Bool) → map place_of (kept (cond b (line_held n x.lines) None)) ≡ cond b ((r.name, n) ∷ []) []
-            unfolding kept
-            by_page true = ap (λ o. map place_of (kept o)) (line_found has.0 x.lines n has.2 (subst (λ ms. is_held ms n ≡ true) (sym has.1) own))
+            by_page : (b : Bool) → map place_of (kept_one r n (cond b (line_held n x.lines) None)) ≡ cond b ((spot r.name n) ∷ []) []
+            by_page true = ap (λ o. map place_of (kept_one r n o)) (line_found has.0 x.lines n has.2 (subst (λ ms. is_held ms n ≡ true) (sym has.1) own))
             by_page false = refl
 
     of_lines : (r : FileRead) → IsAmong r looked → (ns : List ℕ) → list_all (is_held numbers) ns ≡ true
         → places_of (flat_map (λ n. line_kept_in asked r.name n (file_of name_seen r.name now.files) (file_of name_seen r.name made.files) (line_there n (file_of name_seen r.name left.files))) ns)
-        ≡ filter (has_line sizes) (map (λ n. (r.name, n)) ns)
+        ≡ filter (has_line sizes) (map (spot r.name) ns)
     of_lines r is [] own = refl
     of_lines r is (n ∷ ns) own =
         let parts = and_parts (is_held numbers n) (list_all (is_held numbers) ns) own in
         map-append place_of (line_kept_in asked r.name n (file_of name_seen r.name now.files) (file_of name_seen r.name made.files) (line_there n (file_of name_seen r.name left.files)))
         (flat_map (λ n. line_kept_in asked r.name n (file_of name_seen r.name now.files) (file_of name_seen r.name made.files) (line_there n (file_of name_seen r.name left.files))) ns)
         ∙ ap₂ (λ xs ys. xs ++ ys) (by_line r is n parts.0) (of_lines r is ns parts.1)
-        ∙ sym (filter-append (has_line sizes) ((r.name, n) ∷ []) (map (λ n. (r.name, n)) ns))
+        ∙ sym (filter-append (has_line sizes) ((spot r.name n) ∷ []) (map (spot r.name) ns))
 
     of_reads : (some : List FileRead) → ((r : FileRead) → IsAmong r some → IsAmong r looked)
         → places_of (flat_map (read_kept asked now made left) some) ≡ filter (has_line sizes) (places_read some)
@@ -186,7 +185,7 @@ module _ (asked : List FileRead) (now made left : FilesState) where
         ∙ ap₂ (λ xs ys. xs ++ ys)
         (of_lines r is (lines_of_read r.pages) (all_of (λ (q : FileRead). list_all (is_held numbers) (lines_of_read q.pages)) r looked held is))
         (of_reads some (λ q among. each q (inr among)))
-        ∙ sym (filter-append (has_line sizes) (map (λ n. (r.name, n)) (lines_of_read r.pages)) (places_read some))
+        ∙ sym (filter-append (has_line sizes) (map (spot r.name) (lines_of_read r.pages)) (places_read some))
 
     pub places_kept : places_of (flat_map (read_kept asked now made left) looked) ≡ filter (has_line sizes) (places_read looked)
     places_kept = of_reads looked (λ r is. is)

@@ -34,7 +34,7 @@ use Rattle.witnesses.specs.Telling.{pages_told}
 use Rattle.witnesses.proofs.AsideLemmas.{line_aside}
 use Rattle.witnesses.proofs.AskedLemmas.{line_reply_is, lines_at}
 use Rattle.witnesses.proofs.LineToldLemmas.{kept_fits, told_as, told_fits}
-use Rattle.witnesses.proofs.HeldPlaceLemmas.{asked_held, place_among}
+use Rattle.witnesses.proofs.HeldPlaceLemmas.{asked_held, of_first, place_among, spot}
 use Rattle.witnesses.proofs.ListLemmas.{IsAmong, all_from, all_of, among_first, among_last, among_or_not, among_parts, any_more, range_all, range_each}
 
 -- tests of lists of lists, and of what some items become
@@ -238,16 +238,15 @@ module _ (asked : List FileRead) (files : List FileState) where
         by_name false is held rest = ap (λ rs. rs ++ reads_of name (told_of reads)) (other_told r.name name is (lines_of_read r.pages)) ∙ rest held
 
 -- the numbers of the lines at which the reads of one file look are those of its places
-numbers_among : (name : List ℕ) (reads : List FileRead) (n : ℕ) → IsAmong (name, n) (places_read reads) → IsAmong n (all_lines_read (reads_of name reads))
+numbers_among : (name : List ℕ) (reads : List FileRead) (n : ℕ) → IsAmong (spot name n) (places_read reads) → IsAmong n (all_lines_read (reads_of name reads))
 numbers_among name [] n is = absurd is
 numbers_among name (r ∷ reads) n is =
-    by_part (among_parts (name, n) (map (λ n. (r.name, n)) (lines_of_read r.pages)) (places_read reads) is)
+    elim (among_parts (spot name n) (map (spot r.name) (lines_of_read r.pages)) (places_read reads) is)
+    as (λ _. IsAmong n (all_lines_read (cond (bytes_eq r.name name) (r.pages ∷ reads_of name reads) (reads_of name reads)))) [
+      | inl here ↦ let one = of_first r.name (spot name n) (lines_of_read r.pages) here in first (bytes_eq r.name name) ((bytes_eq-Decides r.name name).1 one.0) one.1
+      | inr later ↦ last (bytes_eq r.name name) (numbers_among name reads n later)
+    ]
   where
-    own : (ns : List ℕ) → IsAmong (name, n) (map (λ n. (r.name, n)) ns) → (r.name ≡ name) × IsAmong n ns
-    own [] among = absurd among
-    own (m ∷ ns) (inl same) = (sym (ap (λ (p : List ℕ × ℕ). p.0) same), inl (ap (λ (p : List ℕ × ℕ). p.1) same))
-    own (m ∷ ns) (inr later) = let rest = own ns later in (rest.0, inr rest.1)
-
     first : (b : Bool) → b ≡ true → IsAmong n (lines_of_read r.pages) → IsAmong n (all_lines_read (cond b (r.pages ∷ reads_of name reads) (reads_of name reads)))
     first true is among = among_first n (lines_of_read r.pages) (all_lines_read (reads_of name reads)) among
     first false is among = cc is
@@ -256,53 +255,50 @@ numbers_among name (r ∷ reads) n is =
     last true among = among_last n (lines_of_read r.pages) (all_lines_read (reads_of name reads)) among
     last false among = among
 
-    by_part : IsAmong (name, n) (map (λ n. (r.name, n)) (lines_of_read r.pages)) ⊎ IsAmong (name, n) (places_read reads)
-        → IsAmong n (all_lines_read (cond (bytes_eq r.name name) (r.pages ∷ reads_of name reads) (reads_of name reads)))
-    by_part (inl here) = let one = own (lines_of_read r.pages) here in first (bytes_eq r.name name) ((bytes_eq-Decides r.name name).1 one.0) one.1
-    by_part (inr later) = last (bytes_eq r.name name) (numbers_among name reads n later)
-
 -- and back
-read_among : (name : List ℕ) (reads : List FileRead) (n : ℕ) → IsAmong n (all_lines_read (reads_of name reads))
-    → (r : FileRead) × IsAmong r reads × (r.name ≡ name) × IsAmong n (lines_of_read r.pages)
-read_among name [] n is = absurd is
-read_among name (q ∷ reads) n is = by_name (bytes_eq q.name name) refl is
-  where
-    later : (r : FileRead) × IsAmong r reads × (r.name ≡ name) × IsAmong n (lines_of_read r.pages) → (r : FileRead) × IsAmong r (q ∷ reads) × (r.name ≡ name) × IsAmong n (lines_of_read r.pages)
-    later one = (one.0, inr one.1, one.2, one.3)
+abbrev LooksAt : List ℕ → List FileRead → ℕ → Type 0
+LooksAt name reads n = (r : FileRead) × IsAmong r reads × (r.name ≡ name) × IsAmong n (lines_of_read r.pages)
 
-    by_name : (b : Bool) → bytes_eq q.name name ≡ b → IsAmong n (all_lines_read (cond b (q.pages ∷ reads_of name reads) (reads_of name reads)))
-        → (r : FileRead) × IsAmong r (q ∷ reads) × (r.name ≡ name) × IsAmong n (lines_of_read r.pages)
-    by_name true same among = elim (among_parts n (lines_of_read q.pages) (all_lines_read (reads_of name reads)) among)
-        as (λ _. (r : FileRead) × IsAmong r (q ∷ reads) × (r.name ≡ name) × IsAmong n (lines_of_read r.pages)) [
-          | inl here ↦ (q, inl refl, (bytes_eq-Decides q.name name).0 same, here)
-          | inr there ↦ later (read_among name reads n there)
-        ]
-    by_name false other among = later (read_among name reads n among)
+looks_later : (name : List ℕ) (q : FileRead) (reads : List FileRead) (n : ℕ) → LooksAt name reads n → LooksAt name (q ∷ reads) n
+looks_later name q reads n one = (one.0, inr one.1, one.2, one.3)
+
+looks_here : (name : List ℕ) (q : FileRead) (reads : List FileRead) (n : ℕ) → q.name ≡ name → (IsAmong n (all_lines_read (reads_of name reads)) → LooksAt name reads n)
+    → IsAmong n (lines_of_read q.pages) ⊎ IsAmong n (all_lines_read (reads_of name reads)) → LooksAt name (q ∷ reads) n
+looks_here name q reads n same rest (inl here) = (q, inl refl, same, here)
+looks_here name q reads n same rest (inr there) = looks_later name q reads n (rest there)
+
+looks_by : (name : List ℕ) (q : FileRead) (reads : List FileRead) (n : ℕ) → (IsAmong n (all_lines_read (reads_of name reads)) → LooksAt name reads n) → (b : Bool) → bytes_eq q.name name ≡ b
+    → IsAmong n (all_lines_read (cond b (q.pages ∷ reads_of name reads) (reads_of name reads))) → LooksAt name (q ∷ reads) n
+looks_by name q reads n rest true same among =
+    looks_here name q reads n ((bytes_eq-Decides q.name name).0 same) rest (among_parts n (lines_of_read q.pages) (all_lines_read (reads_of name reads)) among)
+looks_by name q reads n rest false other among = looks_later name q reads n (rest among)
+
+read_among : (name : List ℕ) (reads : List FileRead) (n : ℕ) → IsAmong n (all_lines_read (reads_of name reads)) → LooksAt name reads n
+read_among name [] n is = absurd is
+read_among name (q ∷ reads) n is = looks_by name q reads n (λ there. read_among name reads n there) (bytes_eq q.name name) refl is
+
+in_filter : (b : Bool) (m n : ℕ) (rest : List ℕ) → IsAmong n rest → IsAmong n (cond b (m ∷ rest) rest)
+in_filter true m n rest among = inr among
+in_filter false m n rest among = among
+
+is_filtered : (b : Bool) (m n : ℕ) (rest : List ℕ) → b ≡ true → n ≡ m → IsAmong n (cond b (m ∷ rest) rest)
+is_filtered true m n rest passes same = inl same
+is_filtered false m n rest passes same = cc passes
 
 among_filter : (test : ℕ → Bool) (n : ℕ) (ns : List ℕ) → IsAmong n ns → test n ≡ true → IsAmong n (filter test ns)
 among_filter test n [] is passes = absurd is
-among_filter test n (m ∷ ns) (inl same) passes = by_test (test m) (sym (ap test same) ∙ passes)
-  where
-    by_test : (b : Bool) → b ≡ true → IsAmong n (cond b (m ∷ filter test ns) (filter test ns))
-    by_test true is = inl same
-    by_test false is = cc is
-among_filter test n (m ∷ ns) (inr later) passes = by_test (test m)
-  where
-    by_test : (b : Bool) → IsAmong n (cond b (m ∷ filter test ns) (filter test ns))
-    by_test true = inr (among_filter test n ns later passes)
-    by_test false = among_filter test n ns later passes
+among_filter test n (m ∷ ns) (inl same) passes = is_filtered (test m) m n (filter test ns) (sym (ap test same) ∙ passes) same
+among_filter test n (m ∷ ns) (inr later) passes = in_filter (test m) m n (filter test ns) (among_filter test n ns later passes)
+
+of_filter : (test : ℕ → Bool) (b : Bool) (m n : ℕ) (ns : List ℕ) → test m ≡ b → (IsAmong n (filter test ns) → IsAmong n ns × (test n ≡ true)) → IsAmong n (cond b (m ∷ filter test ns) (filter test ns))
+    → IsAmong n (m ∷ ns) × (test n ≡ true)
+of_filter test true m n ns passes rest (inl same) = (inl same, ap test same ∙ passes)
+of_filter test true m n ns passes rest (inr later) = let one = rest later in (inr one.0, one.1)
+of_filter test false m n ns fails rest later = let one = rest later in (inr one.0, one.1)
 
 filter_among : (test : ℕ → Bool) (n : ℕ) (ns : List ℕ) → IsAmong n (filter test ns) → IsAmong n ns × (test n ≡ true)
 filter_among test n [] is = absurd is
-filter_among test n (m ∷ ns) is = by_test (test m) refl is
-  where
-    later : IsAmong n ns × (test n ≡ true) → IsAmong n (m ∷ ns) × (test n ≡ true)
-    later rest = (inr rest.0, rest.1)
-
-    by_test : (b : Bool) → test m ≡ b → IsAmong n (cond b (m ∷ filter test ns) (filter test ns)) → IsAmong n (m ∷ ns) × (test n ≡ true)
-    by_test true passes (inl same) = (inl same, ap test same ∙ passes)
-    by_test true passes (inr rest) = later (filter_among test n ns rest)
-    by_test false fails rest = later (filter_among test n ns rest)
+filter_among test n (m ∷ ns) is = of_filter test (test m) m n ns refl (λ later. filter_among test n ns later) is
 
 module _ (asked looked : List FileRead) (numbers : List ℕ) (files : List FileState) (fit : reads_pass (now_fits asked) asked files ≡ true)
     (covers : (place : List ℕ × ℕ) → IsAmong place (places_read asked) → IsAmong place (places_read looked))
@@ -369,7 +365,7 @@ module _ (asked looked : List FileRead) (numbers : List ℕ) (files : List FileS
           let within : n < 64 * x.pages = ltb-true n (64 * x.pages) (all_of (λ m. nat_lt m (64 * x.pages)) n (lines_of_read r.pages) (lines_within x.pages r.pages replied) among) in
           let page : n / 64 < x.pages = omega (arith, within) in
           among_filter (λ n. nat_lt (n / 64) x.pages) n (all_lines_read (reads_of name looked))
-          (numbers_among name looked n (covers (name, n) (subst (λ text. IsAmong (text, n) (places_read asked)) same (place_among asked r is n among)))) (lt-ltb (n / 64) x.pages page)
+          (numbers_among name looked n (covers (spot name n) (subst (λ text. IsAmong (spot text n) (places_read asked)) same (place_among asked r is n among)))) (lt-ltb (n / 64) x.pages page)
 
     -- each reply of the question is one that a read of it has
     own_replies : (reads : List FileRead) → ((r : FileRead) → IsAmong r reads → IsAmong r asked) → list_all (is_reply (4096 * x.pages)) (reads_of name reads) ≡ true
@@ -509,8 +505,8 @@ module _ (asked looked : List FileRead) (numbers : List ℕ) (files : List FileS
       and_from (read_passes (now_fits both name) (record { start = 0; len = 0; reply = Refuses because.Missing }) (file_of name_seen name files)) true
       (ap (read_passes (now_fits both name) (record { start = 0; len = 0; reply = Refuses because.Missing })) none ∙ refused_so because.Missing) refl
   size_fits name (Some x) found =
-      let ends = record { start = 4096 * x.pages; len = 0; reply = Refuses because.Length } in
-      let past = record { start = 4096 * x.pages + 1; len = 0; reply = Refuses because.Range } in
+      let ends : PageRead = record { start = 4096 * x.pages; len = 0; reply = Refuses because.Length } in
+      let past : PageRead = record { start = 4096 * x.pages + 1; len = 0; reply = Refuses because.Range } in
       and_from (read_passes (now_fits both name) ends (file_of name_seen name files)) (read_passes (now_fits both name) past (file_of name_seen name files) && true)
       (ap (read_passes (now_fits both name) ends) found
       ∙ and_from (is_reply (4096 * x.pages) ends) (seen_pass (now_fits both name x.pages) ends x.lines) (ends_there x.pages) (no_lines (now_fits both name x.pages) (4096 * x.pages) 0 because.Length x.lines))

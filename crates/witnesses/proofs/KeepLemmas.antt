@@ -242,8 +242,8 @@ numbers_kept_of_blocks sizes inside reads all (s ∷ units) = ap (λ ns. s.numbe
 
 -- and the lines of files are those that are there, by the lengths that are kept
 pub lines_there : (h : Machine) (inside : Option Action) (asked looked : List FileRead) (s : FilesState) → SeesFiles s h → IsComplete h → IsReached h inside → are_held s.numbers looked ≡ true
-    → (sizes : List SizeKept) (lines : List FileLineKept) → sizes ≡ sizes_kept inside asked looked s → lines ≡ files_kept inside asked looked s → places_of lines ≡ filter (has_line sizes) (places_read looked)
-lines_there h inside asked looked s sees complete reached held sizes lines of_sizes of_lines =
+    → (sizes : List SizeKept) (kept : List FileLineKept) → sizes ≡ sizes_kept inside asked looked s → kept ≡ files_kept inside asked looked s → places_of kept ≡ filter (has_line sizes) (places_read looked)
+lines_there h inside asked looked s sees complete reached held sizes kept of_sizes of_lines =
     ap places_of of_lines
     ∙ places_kept asked s (files_made inside s) (left_there inside asked s) looked s.numbers held (left_have s h inside asked sees complete (λ action is. subst (IsReached h) is reached))
     ∙ sym (ap (λ ks. filter (has_line ks) (places_read looked)) of_sizes)

@@ -157,17 +157,16 @@ among_numbers number n (x ∷ xs) (inl same) = (x, inl refl, sym same)
 among_numbers number n (x ∷ xs) (inr later) = let rest = among_numbers number n xs later in (rest.0, inr rest.1, rest.2)
 
 -- some of them have these numbers, in this order
-pub some_of : {A : Type 0} (number : A → ℕ) (xs : List A) (ns : List ℕ) → ((n : ℕ) → IsAmong n ns → IsAmong n (map number xs))
-    → (some : List A) × (map number some ≡ ns) × ((x : A) → IsAmong x some → IsAmong x xs)
-some_of number xs [] each = ([], refl, λ x is. absurd is)
-some_of number xs (n ∷ ns) each = (first.0 ∷ later.0, ap (λ m. m ∷ map number later.0) first.2 ∙ ap (λ ms. n ∷ ms) later.1, by_place)
+with_first : {A : Type 0} (number : A → ℕ) (xs : List A) (n : ℕ) (ns : List ℕ) → (x : A) × IsAmong x xs × (number x ≡ n) → (some : List A) × (map number some ≡ ns) × ((x : A) → IsAmong x some → IsAmong x xs)
+    → (some : List A) × (map number some ≡ n ∷ ns) × ((x : A) → IsAmong x some → IsAmong x xs)
+with_first {A = A} number xs n ns first later =
+    (first.0 ∷ later.0, ap (λ m. m ∷ map number later.0) first.2 ∙ ap (λ ms. n ∷ ms) later.1, by_place)
   where
-    first : (x : A) × IsAmong x xs × (number x ≡ n)
-    first = among_numbers number n xs (each n (inl refl))
-
-    later : (some : List A) × (map number some ≡ ns) × ((x : A) → IsAmong x some → IsAmong x xs)
-    later = some_of number xs ns (λ m is. each m (inr is))
-
     by_place : (x : A) → IsAmong x (first.0 ∷ later.0) → IsAmong x xs
     by_place x (inl same) = subst (λ y. IsAmong y xs) (sym same) first.1
     by_place x (inr is) = later.2 x is
+
+pub some_of : {A : Type 0} (number : A → ℕ) (xs : List A) (ns : List ℕ) → ((n : ℕ) → IsAmong n ns → IsAmong n (map number xs))
+    → (some : List A) × (map number some ≡ ns) × ((x : A) → IsAmong x some → IsAmong x xs)
+some_of number xs [] each = ([], refl, λ x is. absurd is)
+some_of number xs (n ∷ ns) each = with_first number xs n ns (among_numbers number n xs (each n (inl refl))) (some_of number xs ns (λ m is. each m (inr is)))

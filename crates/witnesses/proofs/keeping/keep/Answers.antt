@@ -25,20 +25,21 @@ returns-clause-blocks c =
 pub returns-clause-sizes : goal.returns-clause-sizes
 returns-clause-sizes c =
     let inside = option_map action_of (option_copied c.args.inside) in
-    subst (λ reads. c.in_ok-keep_files.field-0.sizes.items ≡ sizes_kept inside (files_asked c.args.question.now) (file_reads_asked reads) c.args.sight.now.files) c.deref-4.ensures.value
-    (subst (λ reads. c.in_ok-keep_files.field-0.sizes.items ≡ sizes_kept inside (file_reads_asked reads) (file_reads_asked c.deref-4.result.now) c.args.sight.now.files) c.deref-3.ensures.value
-    c.in_ok-keep_files.ensures.sizes)
+    subst (λ reads. c.in_ok-sizes.field-0.sizes.items ≡ sizes_kept inside (files_asked c.args.question.now) (file_reads_asked reads) c.args.sight.now.files) c.deref-4.ensures.value
+    (subst (λ reads. c.in_ok-sizes.field-0.sizes.items ≡ sizes_kept inside (file_reads_asked reads) (file_reads_asked c.deref-4.result.now) c.args.sight.now.files) c.deref-3.ensures.value
+    c.in_ok-sizes.ensures.sizes)
 
 pub returns-clause-files : goal.returns-clause-files
 returns-clause-files c =
     let inside = option_map action_of (option_copied c.args.inside) in
-    subst (λ reads. c.in_ok-keep_files.field-0.lines.items ≡ files_kept inside (files_asked c.args.question.now) (file_reads_asked reads) c.args.sight.now.files) c.deref-4.ensures.value
-    (subst (λ reads. c.in_ok-keep_files.field-0.lines.items ≡ files_kept inside (file_reads_asked reads) (file_reads_asked c.deref-4.result.now) c.args.sight.now.files) c.deref-3.ensures.value
-    c.in_ok-keep_files.ensures.lines)
+    subst (λ reads. c.in_ok-sizes.field-0.lines.items ≡ files_kept inside (files_asked c.args.question.now) (file_reads_asked reads) c.args.sight.now.files) c.deref-4.ensures.value
+    (subst (λ reads. c.in_ok-sizes.field-0.lines.items ≡ files_kept inside (file_reads_asked reads) (file_reads_asked c.deref-4.result.now) c.args.sight.now.files) c.deref-3.ensures.value
+    c.in_ok-sizes.ensures.lines)
 
 pub returns-clause-kept : goal.returns-clause-kept
 returns-clause-kept c = λ h look follows is reached looks shown.
-    kept_so h look c.args.question.now c.args.looked.now (option_map action_of (option_copied c.args.inside)) c.args.sight.now c.args.geometry _
+    kept_so h look c.args.question.now c.args.looked.now (option_map action_of (option_copied c.args.inside)) c.args.sight.now c.args.geometry
+    (record { lines = c.in_ok-lines.lines; blocks = c.in_ok-blocks.blocks; sizes = c.in_ok-sizes.field-0.sizes; files = c.in_ok-sizes.field-0.lines })
     follows is looks shown reached (returns-clause-lines c) (returns-clause-blocks c) (returns-clause-sizes c) (returns-clause-files c)
 
 pub returns-clause-all_lines : goal.returns-clause-all_lines
@@ -61,4 +62,4 @@ returns-clause-all_sizes c =
 pub returns-clause-all_files : goal.returns-clause-all_files
 returns-clause-all_files c = λ h follows reached held.
     lines_there h (option_map action_of (option_copied c.args.inside)) (files_asked c.args.question.now) (files_asked c.args.looked.now) c.args.sight.now.files follows.sees.files follows.ready.whole reached held
-    _ _ (returns-clause-sizes c) (returns-clause-files c)
+    c.in_ok-sizes.field-0.sizes.items c.in_ok-sizes.field-0.lines.items (returns-clause-sizes c) (returns-clause-files c)
