@@ -43,7 +43,5 @@ pub fn find<D: LineDevice>(
     let mut host = begin(alloc, image, device)?;
     let first = &exploration.first;
     let program = &exploration.program;
-    Ok(explore(
-        alloc, &mut host, device, first, program, looked, question,
-    )?)
+    Ok(explore(alloc, &mut host, device, first, program, looked, question)?)
 }

@@ -63,8 +63,10 @@ pub fn keep(
 {
     let lines = keep_lines(alloc, question, &sight.lines, geometry, inside)?;
     let blocks = keep_blocks(alloc, question, &sight.blocks, geometry, inside)?;
-    let FilesKept { sizes, lines: files } =
-        keep_files(alloc, &question.files, &looked.files, &sight.files, inside)?;
+    let FilesKept {
+        sizes,
+        lines: files,
+    } = keep_files(alloc, &question.files, &looked.files, &sight.files, inside)?;
     Ok(Kept {
         lines,
         blocks,

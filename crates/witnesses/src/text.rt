@@ -85,11 +85,7 @@ fn print_sizes(sizes: &[SizeKept], out: &mut Bytes) -> Result<(), AllocError>
 }
 
 // And such a file.
-fn print_new_size(
-    before: &[SizeKept],
-    size: &SizeKept,
-    out: &mut Bytes,
-) -> Result<(), AllocError>
+fn print_new_size(before: &[SizeKept], size: &SizeKept, out: &mut Bytes) -> Result<(), AllocError>
     ensures { OnOk result (out.new.items ≡ out.old.items ++ unless_told same_size size_text before.now size.now) }
 {
     if before.iter().any(|other| other.name == size.name) {
