@@ -52,7 +52,7 @@ use Rattle.value_tables.specs.Sides.{AreBlocksLeft, AreFilesLeft, AreLeft, where
 use Rattle.value_tables.proofs.FileSideLemmas.{files_cut, files_rest}
 use Rattle.value_tables.specs.Values.{cells_of}
 use Rattle.value_tables.proofs.FileValueLemmas.{SideHasWords, sides_have}
-use Rattle.value_tables.proofs.HistoryLemmas.{changed_has, word_has}
+use Rattle.cut_places.proofs.ValueLemmas.{changed_has, each_of}
 use Rattle.value_tables.proofs.SoundLemmas.{places_sound}
 use Rattle.value_tables.proofs.SideLemmas.{blocks_cut, blocks_rest, lines_cut, lines_rest}
 use Rattle.witnesses.specs.declared.block_kept.BlockKept.{BlockKept}
@@ -62,7 +62,10 @@ use Rattle.witnesses.specs.declared.line_kept.LineKept.{LineKept}
 use Rattle.witnesses.specs.Blocks.{block_kept, block_made, numbers_of_blocks}
 use Rattle.witnesses.specs.declared.size_kept.SizeKept.{SizeKept}
 use Rattle.witnesses.specs.Files.{files_kept, files_made, files_way, left_there, line_there, places_of, places_read}
-use Rattle.witnesses.specs.Keeping.{Covers, HasEach, LooksThere}
+use Rattle.cut_places.specs.Enough.{HasEach, IsEnough}
+use Rattle.cut_places.specs.SightsSeen.Units.{AreLines, AreWithin}
+use Rattle.witnesses.specs.Keeping.{Covers, LooksThere}
+use Rattle.witnesses.proofs.HeldPlaceLemmas.{asked_held}
 use Rattle.witnesses.specs.Leaving.{made_by, mixing}
 use Rattle.witnesses.specs.Lines.{line_kept, line_made, numbers_of_lines}
 use Rattle.witnesses.specs.Places.{IsReached, shows_at, state_at}
@@ -88,11 +91,6 @@ seen_have : (held : FilesState) (h : Machine) → SeesFiles held h → AllHaveLi
 seen_have held h sees name x found =
     let there = alike-found name_seen file_name (SeesFile held.numbers) name held.files h.files sees.files x found in (seen there.0.pages, there.3.held, there.3.lines)
 
--- each word of a line that has words has a value
-each_of : (line : Cell) → HasWords line → HasEach line
-each_of Bad has = tt
-each_of (Kept weak words) has = λ w lt. word_has words w (subst (λ m. w < m) (sym has.0) lt) has.1
-
 unit_has : (cells : List Cell) (line : Cell) → EachUnit HasWords cells → IsAmong line cells → HasWords line
 unit_has [] line each is = absurd is
 unit_has (cell ∷ cells) line each (inl same) = subst HasWords (sym same) each.0
@@ -103,6 +101,33 @@ made_has : (geo : Geometry) (way : Option Way) (inside : Option Action) (s : Lin
 made_has geo None inside s has = has
 made_has geo (Some way) None s has = has
 made_has geo (Some way) (Some action) s has = changed_has (volume_change geo action) s.number s.line has
+
+-- a line of a state that is sound
+line_words : (h : Machine) (lines : List LineSeen) (s : LineSeen) → IsSound h → AreLines (seen h.volume) lines → AreWithin h.geometry lines → IsAmong s lines → HasWords s.line
+line_words h lines s sound are within among =
+    subst HasWords (sym (line_of (seen h.volume) lines s are among)) (sound.words s.number (page h.geometry h.volume sound.counted.pages (line_within h.geometry lines s within among)))
+  where
+    page : (geo : Geometry) (pages : List Page) → length pages ≡ geo.vpages → s.number < 64 * geo.vpages → s.number / 64 < length pages
+    page geo pages size lt = subst (λ m. s.number / 64 < m) (sym size) (omega (arith, lt))
+
+-- a question of a look within what is looked at
+covers_of : (q looked : Question) (look all : List Seen) → IsLook look q → IsLook all looked → LooksWithin all look → Covers q looked
+covers_of q looked look all is are under = record {
+  lines = λ n among. subst (λ rs. IsAmong n (all_lines_read rs)) are.volume (under.lines n (subst (λ rs. IsAmong n (all_lines_read rs)) (sym is.volume) among));
+  blocks = λ b among. subst (λ rs. IsAmong b (all_numbers_read rs)) are.blocks (under.blocks b (subst (λ rs. IsAmong b (all_numbers_read rs)) (sym is.blocks) among));
+  files = λ place among. subst (λ rs. IsAmong place (places_read rs)) are.files (under.files place (subst (λ rs. IsAmong place (places_read rs)) (sym is.files) among));
+}
+
+-- What is looked at in a state that is sound is enough for it.
+pub enough_for : (h : Machine) (q looked : Question) (now : Sight) (geo : Geometry) (look all : List Seen) → Follows now geo h → IsSound h → IsLook look q → IsLook all looked → IsWhole now looked
+    → IsWithin now geo → LooksWithin all look → IsEnough now q
+enough_for h q looked now geo look all follows sound is are whole within under =
+    let covers = covers_of q looked look all is are under in record {
+      lines = λ n among. subst (IsAmong n) (sym whole.lines) (covers.lines n among);
+      blocks = λ b among. subst (IsAmong b) (sym whole.blocks) (covers.blocks b among);
+      files = asked_held now.files.numbers (files_asked q) (files_asked looked) covers.files whole.files;
+      words = λ s among. line_words h now.lines.items s sound follows.sees.lines (subst (λ g. AreWithin g now.lines.items) (sym follows.sizes) within.lines) among;
+    }
 
 module _ (h : Machine) (q looked : Question) (inside : Option Action) (now : Sight) (look all : List Seen) (follows : Follows now h.geometry h) (is : IsLook look q) (are : IsLook all looked)
     (whole : IsWhole now looked) (within : IsWithin now h.geometry) (under : LooksWithin all look) (shows : may_show look (state_at h inside) ≡ true) (reached : IsReached h inside)
@@ -138,15 +163,11 @@ module _ (h : Machine) (q looked : Question) (inside : Option Action) (now : Sig
           (files_cut h now.files follows.sees.files action can follows.ready.whole (files_once_done action now.files) refl)
 
   have_words : (s : LineSeen) → IsAmong s now.lines.items → HasWords s.line
-  have_words s among =
-      subst HasWords (sym (line_of (seen h.volume) now.lines.items s follows.sees.lines among)) (by_place inside sound)
+  have_words s among = by_place inside sound
     where
-      page : (geo : Geometry) (pages : List Page) → length pages ≡ geo.vpages → s.number < 64 * geo.vpages → s.number / 64 < length pages
-      page geo pages size lt = subst (λ m. s.number / 64 < m) (sym size) (omega (arith, lt))
-
-      by_place : (o : Option Action) → IsSound (state_at h o) → HasWords (seen h.volume s.number)
-      by_place None at = at.words s.number (page h.geometry h.volume at.counted.pages (line_within h.geometry now.lines.items s within.lines among))
-      by_place (Some action) at = at.words s.number (page h.geometry h.volume at.counted.pages (line_within h.geometry now.lines.items s within.lines among))
+      by_place : (o : Option Action) → IsSound (state_at h o) → HasWords s.line
+      by_place None at = line_words h now.lines.items s at follows.sees.lines within.lines among
+      by_place (Some action) at = line_words (while_interrupted h action) now.lines.items s at follows.sees.lines within.lines among
 
   have_made : AllHaveLines now.files.numbers (files_made inside now.files).files
   have_made = by_place inside reached
@@ -179,11 +200,7 @@ module _ (h : Machine) (q looked : Question) (inside : Option Action) (now : Sig
       (both_among n (8 * n) at page inside now.files name line (option_and_then (files_way now.files) inside) (left_there_is asked now.files name n line inside there))))
 
   covers : Covers q looked
-  covers = record {
-    lines = λ n among. subst (λ rs. IsAmong n (all_lines_read rs)) are.volume (under.lines n (subst (λ rs. IsAmong n (all_lines_read rs)) (sym is.volume) among));
-    blocks = λ b among. subst (λ rs. IsAmong b (all_numbers_read rs)) are.blocks (under.blocks b (subst (λ rs. IsAmong b (all_numbers_read rs)) (sym is.blocks) among));
-    files = λ place among. subst (λ rs. IsAmong place (places_read rs)) are.files (under.files place (subst (λ rs. IsAmong place (places_read rs)) (sym is.files) among));
-  }
+  covers = covers_of q looked look all is are under
 
   pub looks_there : LooksThere h.geometry inside q looked now
   looks_there = record {

@@ -42,7 +42,7 @@ pub record LooksAt (geo : Geometry) (look : List Read) (q : Question) : Type 0 w
   pub blocks : all_numbers_read (blocks_of q) ≡ blocks_looked_at geo look
   pub files : all_lines_read (pages_read (files_asked q)) ≡ file_lines_looked_at geo look
   pub replies : may_be_replies geo q ≡ true
-  pub look : IsLook (looked geo look) q
+  pub asks : IsLook (looked geo look) q
 
 -- a look looks at nothing at which all that is looked at does not
 pub record LooksWithin (all look : List Seen) : Type 0 where

@@ -6,7 +6,7 @@ use Rattle.cut_places.specs.AskedReads.Program.{inputs_of_lines}
 use Rattle.cut_places.specs.declared.place.CutPlace.{CutPlace}
 use Rattle.cut_places.specs.Following.{AreDone, IsFirst}
 use Rattle.cut_places.specs.Places.{cut_places}
-use Rattle.explorer.proofs.KeptLemmas.{found_kept}
+use Rattle.explorer.proofs.KeptLemmas.{enough_for, found_kept}
 use Rattle.explorer.proofs.exploring.follow.Goals as goal
 
 pub returns : goal.returns
@@ -15,8 +15,8 @@ returns c = λ h look all follows done sound is are under.
     let now = c.find.new.sight in
     let geo = c.args.geometry in
     let first = subst (λ (o : Option CutPlace). IsFirst program look now geo (cut_places 1 h (inputs_of_lines program)) o) c.in-Some.is
-    (c.in_ok-place.ensures.first h look follows (subst (λ (ds : List Bool). AreDone h program ds) (sym c.deref.ensures.value) done) is) in
+    (c.in_ok-place.ensures.first h look follows (enough_for h c.args.question.now c.args.looked.now c.args.watched.sight geo look all follows sound is are c.requires.whole c.requires.within under) (subst (λ (ds : List Bool). AreDone h program ds) (sym c.deref.ensures.value) done) is) in
     found_kept program c.args.question.now c.args.looked.now now geo look all c.in-Some.place c.in_ok-kept.kept (option_map action_of (option_copied c.command_at-inside.result)) h c.requires.program follows.ready sound first is are
-    c.in_ok-place.ensures.whole c.in_ok-place.ensures.within under c.command_at-inside.ensures.action
+    (c.in_ok-place.ensures.whole c.args.looked.now c.requires.whole) c.in_ok-place.ensures.within under c.command_at-inside.ensures.action
     c.in_ok-kept.ensures.lines c.in_ok-kept.ensures.blocks c.in_ok-kept.ensures.sizes c.in_ok-kept.ensures.files
     (λ m at reached looks shows. c.in_ok-kept.ensures.kept m look at is reached looks shows)
