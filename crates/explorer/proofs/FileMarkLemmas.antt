@@ -31,7 +31,7 @@ use Rattle.witnesses.specs.declared.line_kept.LineLeft.{LineLeft}
 use Rattle.witnesses.specs.Files.{files_made, files_way, left_there, line_kept_in, line_kept_of, line_there, place_of, places_of, read_kept}
 use Rattle.witnesses.specs.Leaving.{made_by, mixing}
 use Rattle.witnesses.specs.Lines.{could_differ, left_of}
-use Rattle.witnesses.proofs.FilesToldLemmas.{line_found}
+use Rattle.witnesses.proofs.FilesReadLemmas.{line_found}
 use Rattle.witnesses.proofs.ListLemmas.{IsAmong, among_first, among_last}
 use Rattle.witnesses.proofs.SidesLemmas.{left_there_is}
 use Rattle.explorer.specs.Choosing.{file_line_choices, has_choice, side_count}

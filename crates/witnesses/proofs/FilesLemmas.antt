@@ -34,7 +34,8 @@ use Rattle.witnesses.specs.Keeping.{HasEach}
 use Rattle.witnesses.specs.Places.{IsReached, state_at}
 use Rattle.witnesses.specs.Sizes.{has_line, is_before_end, names_of_sizes, names_read, pages_in, pages_of, size_read}
 use Rattle.witnesses.specs.Telling.{file_told, size_told}
-use Rattle.witnesses.proofs.FilesToldLemmas.{both_fit, both_held, line_found, sizes_of, there_told, told_of}
+use Rattle.witnesses.proofs.FilesReadLemmas.{line_found, sizes_of, there_told, told_of}
+use Rattle.witnesses.proofs.FilesToldLemmas.{both_fit, both_held}
 use Rattle.witnesses.proofs.HeldPlaceLemmas.{spot}
 use Rattle.witnesses.proofs.ListLemmas.{IsAmong, all_of}
 

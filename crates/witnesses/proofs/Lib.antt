@@ -12,6 +12,7 @@ pub mod HeldPlaceLemmas
 pub mod AsideLemmas
 pub mod CoverLemmas
 pub mod ThereLemmas
+pub mod FilesReadLemmas
 pub mod FilesToldLemmas
 pub mod FilesLemmas
 pub mod SidesLemmas

@@ -15,19 +15,19 @@ use Rattle.cut_places.specs.Outcomes.Seen.Seen.{of_blocks, of_file, of_volume}
 use Rattle.witnesses.proofs.ListLemmas.{IsAmong}
 use Rattle.witnesses.proofs.MoreLemmas.{blocks_more, volume_more}
 
-volume_reads-append : (look more : List Seen) → volume_reads (look ++ more) ≡ volume_reads look ++ volume_reads more
+pub volume_reads-append : (look more : List Seen) → volume_reads (look ++ more) ≡ volume_reads look ++ volume_reads more
 volume_reads-append [] more = refl
 volume_reads-append (of_volume r ∷ look) more = ap (λ rs. r ∷ rs) (volume_reads-append look more)
 volume_reads-append (of_blocks r ∷ look) more = volume_reads-append look more
 volume_reads-append (of_file r ∷ look) more = volume_reads-append look more
 
-block_reads-append : (look more : List Seen) → block_reads (look ++ more) ≡ block_reads look ++ block_reads more
+pub block_reads-append : (look more : List Seen) → block_reads (look ++ more) ≡ block_reads look ++ block_reads more
 block_reads-append [] more = refl
 block_reads-append (of_volume r ∷ look) more = block_reads-append look more
 block_reads-append (of_blocks r ∷ look) more = ap (λ rs. r ∷ rs) (block_reads-append look more)
 block_reads-append (of_file r ∷ look) more = block_reads-append look more
 
-file_reads-append : (look more : List Seen) → file_reads (look ++ more) ≡ file_reads look ++ file_reads more
+pub file_reads-append : (look more : List Seen) → file_reads (look ++ more) ≡ file_reads look ++ file_reads more
 file_reads-append [] more = refl
 file_reads-append (of_volume r ∷ look) more = file_reads-append look more
 file_reads-append (of_blocks r ∷ look) more = file_reads-append look more
