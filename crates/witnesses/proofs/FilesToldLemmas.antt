@@ -28,7 +28,7 @@ use Rattle.witnesses.specs.Keeping.{HasEach}
 use Rattle.witnesses.specs.Lines.{left_of}
 use Rattle.witnesses.specs.Sizes.{pages_in}
 use Rattle.witnesses.specs.Telling.{pages_told}
-use Rattle.witnesses.proofs.AsideLemmas.{line_aside}
+use Rattle.cut_places.proofs.AsideLemmas.{line_aside}
 use Rattle.witnesses.proofs.AskedLemmas.{line_reply_is, lines_at}
 use Rattle.witnesses.proofs.LineToldLemmas.{kept_fits, told_as, told_fits}
 use Rattle.witnesses.proofs.HeldPlaceLemmas.{asked_held, place_among, spot}

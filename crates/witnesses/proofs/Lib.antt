@@ -9,8 +9,6 @@ pub mod SeenLemmas
 pub mod AskedLemmas
 pub mod UnitLemmas
 pub mod HeldPlaceLemmas
-pub mod AsideLemmas
-pub mod CoverLemmas
 pub mod ThereLemmas
 pub mod FilesReadLemmas
 pub mod FilesToldLemmas

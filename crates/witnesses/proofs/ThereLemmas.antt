@@ -40,8 +40,8 @@ use Rattle.witnesses.specs.Keeping.{HasEach, LooksThere}
 use Rattle.witnesses.specs.Leaving.{mixing}
 use Rattle.witnesses.specs.Lines.{line_made}
 use Rattle.witnesses.specs.Places.{IsReached, shows_at, state_at}
-use Rattle.witnesses.proofs.AsideLemmas.{block_aside, line_aside}
-use Rattle.witnesses.proofs.CoverLemmas.{IsLike, covered}
+use Rattle.cut_places.proofs.AsideLemmas.{block_aside, line_aside}
+use Rattle.cut_places.proofs.CoverLemmas.{IsLike, covered}
 use Rattle.witnesses.proofs.HeldPlaceLemmas.{asked_held}
 use Rattle.witnesses.proofs.ListLemmas.{IsAmong, among_numbers, among_or_not, some_of}
 use Rattle.witnesses.proofs.UnitLemmas.{block_of, block_same, change_at, from_parts, geometry_at, line_of, line_same}

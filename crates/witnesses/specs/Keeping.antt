@@ -1,8 +1,7 @@
 -- What is looked at where a cut falls, so that a cut there may leave all that is kept of it with what a question asks.
-use Rattle.std.specs.Prelude.{◌≡◌, ◌⊎◌, ◌≤◌, ◌<◌, ℕ, true, List, [], ◌∷◌, length, slice_index_or, Option, Some}
+use Rattle.std.specs.Prelude.{◌≡◌, ℕ, true, List, Option, Some}
 use Rattle.word_tables.specs.declared.geometry.Geometry.{Geometry}
 use Rattle.nvm_model.specs.Cell.{Cell}
-use Rattle.nvm_model.specs.Cell.Cell.{Bad, Kept}
 use Rattle.nvm_model.specs.Listing.{file_of}
 use Rattle.script_text.specs.Action.{Action}
 use Rattle.cut_places.specs.Outcomes.Blocks.{all_numbers_read}
@@ -13,25 +12,16 @@ use Rattle.cut_places.specs.SightsSeen.declared.line_seen.LineSeen.{LineSeen}
 use Rattle.cut_places.specs.declared.sight.Sight.{Sight}
 use Rattle.cut_places.specs.FilesState.{name_seen}
 use Rattle.cut_places.specs.SeesFiles.{is_held}
+pub use Rattle.cut_places.specs.Enough.{HasEach, IsAmong}
 use Rattle.cut_places.specs.Following.{IsWhole, IsWithin}
 use Rattle.witnesses.specs.Files.{left_there, line_there, places_read}
 use Rattle.witnesses.specs.Lines.{line_mixed}
-
--- x is one of them
-abbrev pub IsAmong : {A : Type 0} → A → List A → Type 0
-IsAmong x [] = ⊥
-IsAmong x (y ∷ ys) = (x ≡ y) ⊎ IsAmong x ys
 
 -- all that a question's reads look at others look at too
 pub record Covers (q looked : Question) : Type 0 where
   pub lines : (n : ℕ) → IsAmong n (all_lines_read (volume_asked q)) → IsAmong n (all_lines_read (volume_asked looked))
   pub blocks : (b : ℕ) → IsAmong b (all_numbers_read (blocks_of q)) → IsAmong b (all_numbers_read (blocks_of looked))
   pub files : (place : List ℕ × ℕ) → IsAmong place (places_read (files_asked q)) → IsAmong place (places_read (files_asked looked))
-
--- each word of a line has a value
-abbrev pub HasEach : Cell → Type 0
-HasEach Bad = Unit {0}
-HasEach (Kept weak words) = (w : ℕ) → w < 8 → 1 ≤ length (slice_index_or words w [])
 
 -- It is all that these reads look at, those of the question among them, and each word that a cut may leave has a value.
 pub record LooksThere (geo : Geometry) (inside : Option Action) (q looked : Question) (now : Sight) : Type 0 where

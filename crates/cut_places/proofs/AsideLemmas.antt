@@ -9,16 +9,16 @@ use Rattle.nvm_model.specs.Cell.Cell.{Bad, Kept}
 use Rattle.nvm_model.specs.Numbered.{is_among}
 use Rattle.block_sights.specs.Sights.{Sight}
 use Rattle.reply_text.specs.declared.reply.Why.{Why}
-use Rattle.cut_places.specs.MachineModel.Meaning.{most_refusal}
-use Rattle.cut_places.proofs.MachineModel.RefusalLemmas.{read_within}
-use Rattle.cut_places.specs.Outcomes.Blocks.{BlockRead, BlockReply, all_numbers_read, numbers_read}
-use Rattle.cut_places.specs.Outcomes.Blocks.BlockReply.{Shows as ShowsBlock, Scar, BadLine, Refuses as RefusesBlock}
-use Rattle.cut_places.specs.Outcomes.Pages.{PageRead, PageReply, agrees, all_agree, all_allow_bad, all_allow_good, all_lines_read, allows_bad, allows_good, is_given, is_reply, is_reply_by, lines_read, words_fit}
-use Rattle.cut_places.specs.Outcomes.Pages.PageReply.{Shows, Poison, Refuses}
-use Rattle.cut_places.specs.AskedReads.Fitting.{cell_fits, sight_allows, sight_fits}
+use Rattle.sights.specs.MachineModel.Meaning.{most_refusal}
+use Rattle.sights.proofs.MachineModel.RefusalLemmas.{read_within}
+use Rattle.sights.specs.Outcomes.Blocks.{BlockRead, BlockReply, all_numbers_read, numbers_read}
+use Rattle.sights.specs.Outcomes.Blocks.BlockReply.{Shows as ShowsBlock, Scar, BadLine, Refuses as RefusesBlock}
+use Rattle.sights.specs.Outcomes.Pages.{PageRead, PageReply, agrees, all_agree, all_allow_bad, all_allow_good, all_lines_read, allows_bad, allows_good, is_given, is_reply, is_reply_by, lines_read, words_fit}
+use Rattle.sights.specs.Outcomes.Pages.PageReply.{Shows, Poison, Refuses}
+use Rattle.sights.specs.AskedReads.Fitting.{cell_fits, sight_allows, sight_fits}
 use Rattle.cut_places.proofs.AllLemmas.{one_of_range}
-use Rattle.witnesses.specs.Keeping.{HasEach}
-use Rattle.witnesses.proofs.ListLemmas.{range_all}
+use Rattle.cut_places.specs.Enough.{HasEach}
+use Rattle.cut_places.proofs.AmongLemmas.{range_all}
 
 -- a line that a read touches is one at which it looks
 touched_at : (start len n : ℕ) → 1 ≤ len → touches start len n ≡ true → (start / 64 ≤ n) × (n < start / 64 + ((start + len - 1) / 64 + 1 - start / 64))

@@ -1,11 +1,12 @@
 -- A cut that may leave what a question asks of some units may leave it of more, where each of these is one of them or fits either way.
-use Rattle.std.proofs.Common.{◌≡◌, ◌⊎◌, inl, inr, ℕ, ◌/◌, ◌==◌, ◌&&◌, ◌||◌, not, Bool, true, false, Option, Some, None, List, [], ◌∷◌, refl, sym, ap, subst, ◌∙◌, eq-eqb}
+use Rattle.std.proofs.Common.{◌≡◌, ◌⊎◌, inl, inr, ℕ, ◌/◌, ◌==◌, ◌&&◌, ◌||◌, not, Bool, true, false, Option, Some, None, List, [], ◌∷◌, map, refl, sym, ap, subst, ◌∙◌}
 use Rattle.std.specs.List.{list_all}
 use Rattle.std.proofs.lemmas.Bool.{eqb-true, or_cases, or_left, or_right}
-use Rattle.cut_places.specs.SightsSeen.declared.way.Way.{Way}
-use Rattle.cut_places.specs.SightsSeen.declared.way.Way.TheVariants.{Each, Together, ByPage}
-use Rattle.cut_places.specs.SightsSeen.Ways.{passes_inside}
-use Rattle.witnesses.proofs.ListLemmas.{IsAmong, all_from, all_of}
+use Rattle.sights.specs.declared.way.Way.{Way}
+use Rattle.sights.specs.declared.way.Way.TheVariants.{Each, Together, ByPage}
+use Rattle.sights.specs.Ways.{passes_inside}
+use Rattle.cut_places.specs.Enough.{IsAmong}
+use Rattle.cut_places.proofs.AmongLemmas.{all_from, all_of, among_numbers, among_or_not}
 
 module _ {A : Type 0} (f g : A → Bool) (page : A → ℕ) (some : List A) where
   -- it is like one of some, or passes both ways
@@ -71,3 +72,59 @@ module _ {A : Type 0} (f g : A → Bool) (page : A → ℕ) (some all : List A) 
     | inr then ↦ or_right (list_all f all) (list_all g all) (all_from g all (λ u is. one_then u (each u is) then))
   ]
   covered (Some ByPage) passes = all_from (λ u. group_passes all (page u)) all (λ u is. group_all (page u) (group_some (page u) passes))
+
+-- and of all of them, of some
+module _ {A : Type 0} (f g : A → Bool) (page : A → ℕ) (some all : List A) (within : (u : A) → IsAmong u some → IsAmong u all) where
+  fewer_pass : (test : A → Bool) → list_all test all ≡ true → list_all test some ≡ true
+  fewer_pass test passes = all_from test some (λ u is. all_of test u all passes (within u is))
+
+  fewer_either : (first second : A → Bool) → (list_all first all || list_all second all) ≡ true → (list_all first some || list_all second some) ≡ true
+  fewer_either first second passes = elim (or_cases (list_all first all) (list_all second all) passes) as (λ _. (list_all first some || list_all second some) ≡ true) [
+    | inl now ↦ or_left (list_all first some) (list_all second some) (fewer_pass first now)
+    | inr then ↦ or_right (list_all first some) (list_all second some) (fewer_pass second then)
+  ]
+
+  pub fewer : (way : Option Way) → passes_inside way f g page all ≡ true → passes_inside way f g page some ≡ true
+  fewer None passes = fewer_pass f passes
+  fewer (Some Each) passes = fewer_pass (λ u. f u || g u) passes
+  fewer (Some Together) passes = fewer_either f g passes
+  fewer (Some ByPage) passes =
+      all_from (λ u. list_all (λ v. not (page v == page u) || f v) some || list_all (λ v. not (page v == page u) || g v) some) some
+      (λ u is. fewer_either (λ v. not (page v == page u) || f v) (λ v. not (page v == page u) || g v)
+      (all_of (λ u. list_all (λ v. not (page v == page u) || f v) all || list_all (λ v. not (page v == page u) || g v) all) u all passes (within u is)))
+
+same_tests : (a b : Bool) → (a ≡ true → b ≡ true) → (b ≡ true → a ≡ true) → a ≡ b
+same_tests true b there back = sym (there refl)
+same_tests false true there back = back refl
+same_tests false false there back = refl
+
+-- Units of a storage, each with its value there: those whose numbers are asked about pass as all do, where each other one fits either way.
+module _ {A V : Type 0} (number : A → ℕ) (value : A → V) (test : ℕ → V → Bool) (made : ℕ → V → V) (page : ℕ → ℕ) (there : ℕ → V) (some all : List A) (numbers : List ℕ)
+    (are : map number some ≡ numbers) (within : (u : A) → IsAmong u some → IsAmong u all) (each : (u : A) → IsAmong u all → value u ≡ there (number u))
+    (aside : (u : A) → IsAmong u all → list_all (λ m. not (m == number u)) numbers ≡ true → (test (number u) (value u) ≡ true) × (test (number u) (made (number u) (value u)) ≡ true)) where
+  abbrev now : A → Bool
+  now u = test (number u) (value u)
+
+  abbrev later : A → Bool
+  later u = test (number u) (made (number u) (value u))
+
+  is_like : (u : A) → IsAmong u all → IsLike now later (λ v. page (number v)) some u
+  is_like u among = by_asked (among_or_not (number u) numbers)
+    where
+      by_asked : IsAmong (number u) numbers ⊎ (list_all (λ m. not (m == number u)) numbers ≡ true) → IsLike now later (λ v. page (number v)) some u
+      by_asked (inl asked) =
+          let one = among_numbers number (number u) some (subst (IsAmong (number u)) (sym are) asked) in
+          let same : value one.0 ≡ value u = each one.0 (within one.0 one.1) ∙ ap there one.2 ∙ sym (each u among) in
+          inl (
+            one.0,
+            one.1,
+            ap (λ n. test n (value one.0)) one.2 ∙ ap (test (number u)) same,
+            ap (λ n. test n (made n (value one.0))) one.2 ∙ ap (λ v. test (number u) (made (number u) v)) same,
+            ap page one.2,
+          )
+      by_asked (inr out) = inr (aside u among out)
+
+  pub same_all : (way : Option Way) → passes_inside way now later (λ v. page (number v)) some ≡ passes_inside way now later (λ v. page (number v)) all
+  same_all way =
+      same_tests (passes_inside way now later (λ v. page (number v)) some) (passes_inside way now later (λ v. page (number v)) all)
+      (covered now later (λ v. page (number v)) some all is_like way) (fewer now later (λ v. page (number v)) some all within way)
