@@ -12,6 +12,7 @@ pub mod SoundLemmas
 pub mod KeptLemmas
 pub mod FoundLemmas
 pub mod LookingLemmas
+pub mod LookedLemmas
 pub mod ResultLemmas
 pub mod FollowedLemmas
 pub mod LedLemmas
