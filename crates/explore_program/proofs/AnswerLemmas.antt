@@ -16,12 +16,13 @@ use Rattle.exploration.specs.declared.asking.Asking.{Asking}
 use Rattle.exploration.specs.declared.asking.Wanted.{Wanted}
 use Rattle.exploration.specs.declared.asking.Wanted.TheVariants as wanted
 use Rattle.exploration.specs.Exploration.{Asked}
-use Rattle.outcome_lists.specs.AskedReads.Asking.{IsLook}
+use Rattle.outcome_lists.specs.AskedReads.Asking.{IsLook, files_asked, may_be_replies, volume_asked}
+use Rattle.outcome_lists.specs.AskedReads.declared.question.Question.{Question}
 use Rattle.exploration.specs.Reading.{AskOf, IsAsking}
 use Rattle.outcome_lists.specs.Explorer.Stopping.{NoneFell}
 use Rattle.outcome_lists.specs.CutPlaces.Places.{Stop}
 use Rattle.outcome_lists.specs.Explorer.Finding.{IsFound}
-use Rattle.outcome_lists.specs.Explorer.Tabulating.{LooksWithin, looked}
+use Rattle.outcome_lists.specs.Explorer.Tabulating.{LooksAt, LooksWithin, looked}
 use Rattle.outcome_lists.specs.Explorer.declared.found.Found.{Found}
 use Rattle.program_base.specs.Writing.{WritesFront}
 use Rattle.program_base.proofs.BytesLemmas.{appends-none, appends_then}
@@ -30,7 +31,7 @@ use Rattle.explore_program.specs.Calls.{AllAskOf, AnswersAll, AreAnswered, First
 use Rattle.explore_program.specs.declared.stop.Stop.{Stop as Stopped}
 use Rattle.explore_program.specs.Stops.{of_write}
 use Rattle.explore_program.proofs.CauseLemmas.{fell_on, unanswered_later, unanswered_write}
-use Rattle.explore_program.specs.Telling.{answer_line, is_any_missed, is_missed}
+use Rattle.explore_program.specs.Telling.{answer_line, answer_text, is_any_missed, is_missed}
 
 -- a question by its number
 pub asked_at : (questions : List Asking) (i : ℕ) (q : Asking) → i < length questions → q ≡ get_or questions i q → slice_get questions i ≡ Some q
@@ -67,6 +68,19 @@ missed_found wanted.May all look None None is = refl
 missed_found wanted.May all look None (Some found) is = absurd is
 missed_found wanted.May all look (Some stop) None is = absurd is
 missed_found wanted.May all look (Some stop) (Some found) is = refl
+
+-- the line of an answer, by the reads that look at all
+pub spelled_by : {E : Type 0} (all : List Seen) (q : Question) (found : Option Found) (line : Result (Stock ℕ) E) → IsLook all q
+    → IfOk line (λ l. l.items ≡ answer_text (volume_asked q) (files_asked q) found) → IfOk line (λ l. l.items ≡ answer_line all found)
+spelled_by all q found (Ok l) is told = told ∙ sym (ap₂ (λ pages files. answer_text pages files found) is.volume is.files)
+spelled_by all q found (Err e) is told = tt
+
+-- what is looked at, of a device of the image's sizes
+pub looked_asks : {geo sizes : Geometry} {reads : List Read} {q : Question} → sizes ≡ geo → LooksAt geo reads q → IsLook (looked sizes reads) q
+looked_asks {reads = reads} {q = q} same looks = subst (λ g. IsLook (looked g reads) q) (sym same) looks.asks
+
+pub looked_replies : {geo sizes : Geometry} {reads : List Read} {q : Question} → sizes ≡ geo → LooksAt geo reads q → may_be_replies sizes q ≡ true
+looked_replies {q = q} same looks = subst (λ g. may_be_replies g q ≡ true) (sym same) looks.replies
 
 -- the look of a question by its number is within what is looked at
 within_at : (geo : Geometry) (reads : List Read) (asked : List Asked) (i : ℕ) (a : Asked) → AllAskOf geo reads asked → slice_get asked i ≡ Some a → LooksWithin (looked geo reads) a.look

@@ -6,6 +6,7 @@ ghost use Rattle.exploration.specs.Reading.{AskOf};
 ghost use Rattle.outcome_lists.specs.CutPlaces.Places.{found_stop};
 ghost use Rattle.outcome_lists.specs.Explorer.Tabulating.{looked};
 ghost use Rattle.program_base.specs.Opening.{opened};
+ghost use Rattle.word_tables.specs.Bounds.{IsValid};
 ghost use Rattle.explore_program.specs.Calls.{AllAskOf, AnswersAll, AreCommands, AreMountable};
 ghost use Rattle.explore_program.specs.Showing.{begun_at};
 
@@ -34,8 +35,10 @@ pub fn answer_all<D: LineDevice, K: Sink>(
     requires first { AreCommands exploration.now.first.items }
     requires program { AreCommands exploration.now.program.items }
     requires sizes { (opened image.now.lines.items).geometry ≡ geometry }
-    ensures { (asked : List Asked) → AskOf asked exploration.now.questions.items → AllAskOf geometry exploration.now.reads.items asked
-        → AnswersAll (looked geometry exploration.now.reads.items) [] (found_stop (begun_at (opened image.now.lines.items) (inputs_of_lines exploration.now.first.items)) (inputs_of_lines exploration.now.program.items)) asked result
+    requires valid { IsValid geometry }
+    ensures { (asked : List Asked) → AskOf asked exploration.now.questions.items
+        → AllAskOf (opened image.now.lines.items).geometry exploration.now.reads.items asked
+        → AnswersAll (looked (opened image.now.lines.items).geometry exploration.now.reads.items) [] (found_stop (begun_at (opened image.now.lines.items) (inputs_of_lines exploration.now.first.items)) (inputs_of_lines exploration.now.program.items)) asked result
         (K.written answers.old) (K.written answers.new) (K.count answers.old) (K.count answers.new) (D.state device.old).panel (D.state device.new).panel }
 {
     let looked = look_at(alloc, geometry, &exploration.reads)?;

@@ -1,8 +1,7 @@
 // The line that answers a question, and whether the answer is the one that is wanted.
-ghost use Rattle.std.specs.Prelude.{◌≡◌, IfOk, List};
-ghost use Rattle.outcome_lists.specs.OutcomeTest.Seen.{Seen};
-ghost use Rattle.outcome_lists.specs.AskedReads.Asking.{IsLook};
-ghost use Rattle.explore_program.specs.Telling.{answer_line, is_missed};
+ghost use Rattle.std.specs.Prelude.{◌≡◌, IfOk};
+ghost use Rattle.outcome_lists.specs.AskedReads.Asking.{files_asked, volume_asked};
+ghost use Rattle.explore_program.specs.Telling.{answer_text, is_missed};
 
 use exploration::Wanted;
 use nvm_base::Bytes;
@@ -19,7 +18,7 @@ pub fn answer_line(
     looked: &Question,
     found: &Option<Found>,
 ) -> Result<Bytes, AllocError>
-    ensures { (all : List Seen) → IsLook all looked.now → IfOk result (λ line. line.items ≡ answer_line all found.now) }
+    ensures { IfOk result (λ line. line.items ≡ answer_text (volume_asked looked.now) (files_asked looked.now) found.now) }
 {
     let Some(found) = found else {
         return plain_line(alloc, b"never");
