@@ -10,6 +10,7 @@ pub mod FreeUnitLemmas
 pub mod WriteLemmas
 pub mod PartLemmas
 pub mod PassedLemmas
+pub mod ChangingLemmas
 pub mod AssignLemmas
 pub mod SwitchLemmas
 pub mod CheckLemmas

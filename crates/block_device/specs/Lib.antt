@@ -5,4 +5,5 @@ pub mod Refusals
 pub mod Images
 pub mod Changes
 pub mod Mounting
+pub mod Changing
 pub mod Prepared

@@ -1,14 +1,14 @@
-use Rattle.std.proofs.Common.{subst}
-use Rattle.line_words.proofs.BesideLemmas.{beside-refl}
+use Rattle.std.proofs.Common.{subst, rules}
 use Rattle.block_device.specs.Object.{BlocksState, HasGoodMetadata}
+use Rattle.block_device.proofs.ChangingLemmas.{changes_nothing}
 use Rattle.block_device.proofs.PassedLemmas.{meta_passed}
 use Rattle.block_device.proofs.Blocks.atomic_multiwrite.Goals as goal
 
-pub returns-in_err-check_ranges-clause-outside : goal.returns-in_err-check_ranges-clause-outside
-returns-in_err-check_ranges-clause-outside g c = beside-refl _ _
+pub returns-in_err-check_ranges : goal.returns-in_err-check_ranges
+returns-in_err-check_ranges g c = changes_nothing _ _ _ _ _ _ _ _ _ (search rules) (search rules) c.requires.settled c.requires.serves
 
-pub returns-in_err-check_meta-clause-outside : goal.returns-in_err-check_meta-clause-outside
-returns-in_err-check_meta-clause-outside g c = beside-refl _ _
+pub returns-in_err-check_meta : goal.returns-in_err-check_meta
+returns-in_err-check_meta g c = changes_nothing _ _ _ _ _ _ _ _ _ (search rules) (search rules) c.requires.settled c.requires.serves
 
 pub write_apart-requires-clause-good : goal.write_apart-requires-clause-good
 write_apart-requires-clause-good g c =

@@ -1,16 +1,16 @@
 -- Spans that pass the tests may change together.
-use Rattle.std.proofs.Common.{subst}
-use Rattle.line_words.proofs.BesideLemmas.{beside-refl}
+use Rattle.std.proofs.Common.{subst, rules}
 use Rattle.block_device.specs.Object.{BlocksState, HasGoodMetadata}
 use Rattle.block_device.specs.Prepared.{AreTogether}
+use Rattle.block_device.proofs.ChangingLemmas.{changes_nothing}
 use Rattle.block_device.proofs.PassedLemmas.{together_passed, meta_passed}
 use Rattle.block_device.proofs.Blocks.change_together.Goals as goal
 
-pub returns-in_err-check_together-clause-outside : goal.returns-in_err-check_together-clause-outside
-returns-in_err-check_together-clause-outside g c = beside-refl _ _
+pub returns-in_err-check_together : goal.returns-in_err-check_together
+returns-in_err-check_together g c = changes_nothing _ _ _ _ _ _ _ _ _ (search rules) (search rules) c.requires.settled c.requires.serves
 
-pub returns-in_err-check_meta-clause-outside : goal.returns-in_err-check_meta-clause-outside
-returns-in_err-check_meta-clause-outside g c = beside-refl _ _
+pub returns-in_err-check_meta : goal.returns-in_err-check_meta
+returns-in_err-check_meta g c = changes_nothing _ _ _ _ _ _ _ _ _ (search rules) (search rules) c.requires.settled c.requires.serves
 
 pub change_apart-requires-clause-good : goal.change_apart-requires-clause-good
 change_apart-requires-clause-good g c =

@@ -1,14 +1,14 @@
-use Rattle.std.proofs.Common.{subst}
-use Rattle.line_words.proofs.BesideLemmas.{beside-refl}
+use Rattle.std.proofs.Common.{subst, rules}
 use Rattle.block_device.specs.Object.{BlocksState, HasGoodMetadata}
+use Rattle.block_device.proofs.ChangingLemmas.{changes_nothing}
 use Rattle.block_device.proofs.PassedLemmas.{meta_passed}
 use Rattle.block_device.proofs.Blocks.write.Goals as goal
 
-pub returns-in_err-check_bytes-clause-outside : goal.returns-in_err-check_bytes-clause-outside
-returns-in_err-check_bytes-clause-outside g c = beside-refl _ _
+pub returns-in_err-check_bytes : goal.returns-in_err-check_bytes
+returns-in_err-check_bytes g c = changes_nothing _ _ _ _ _ _ _ _ _ (search rules) (search rules) c.requires.settled c.requires.serves
 
-pub returns-in_err-check_meta-clause-outside : goal.returns-in_err-check_meta-clause-outside
-returns-in_err-check_meta-clause-outside g c = beside-refl _ _
+pub returns-in_err-check_meta : goal.returns-in_err-check_meta
+returns-in_err-check_meta g c = changes_nothing _ _ _ _ _ _ _ _ _ (search rules) (search rules) c.requires.settled c.requires.serves
 
 pub write_blocks-requires-clause-good : goal.write_blocks-requires-clause-good
 write_blocks-requires-clause-good g c =

@@ -1,4 +1,4 @@
-use Rattle.std.proofs.Common.{false, length, sym, subst, ◌∙◌, ap, arith}
+use Rattle.std.proofs.Common.{false, length, sym, subst, ◌∙◌, ap, arith, rules}
 use Rattle.line_device.proofs.PanelLemmas.{runs_then, runs_within}
 use Rattle.nvm_model.specs.Blocks.{write_ranges}
 use Rattle.block_device.specs.Object.{BlocksServe}
@@ -16,10 +16,17 @@ pub prepare_ranges-requires-clause-prepared : goal.prepare_ranges-requires-claus
 prepare_ranges-requires-clause-prepared g c =
     none_prepared _ c.args.self.now _ (g.L.Lines.state c.args.dev.now).medium c.new-changes.result.items c.self.view_is c.self.invariant c.requires.serves c.requires.settled c.new-changes.ensures
 
-pub returns-in_err-prepare_ranges-clause-images : goal.returns-in_err-prepare_ranges-clause-images
-returns-in_err-prepare_ranges-clause-images g c =
-    before-images c.args.self.now _ (g.L.Lines.state c.args.dev.now).medium (g.L.Lines.state c.prepare_ranges.new.dev).medium _
-    (before_from _ _ _ _ _ c.self.view_is c.prepare_ranges.ensures.before)
+pub returns-in_err-prepare_ranges : goal.returns-in_err-prepare_ranges
+returns-in_err-prepare_ranges g c =
+    let before = before_from _ _ _ _ _ c.self.view_is c.prepare_ranges.ensures.before in
+    record {
+      ok = search rules;
+      images = before-images c.args.self.now _ (g.L.Lines.state c.args.dev.now).medium (g.L.Lines.state c.prepare_ranges.new.dev).medium _ before;
+      outside = before.outside;
+      serves = search rules;
+      object = search rules;
+      runs = search rules;
+    }
 
 pub switch-requires-clause-some : goal.switch-requires-clause-some
 switch-requires-clause-some g c =
@@ -33,43 +40,23 @@ pub switch-requires-clause-durable : goal.switch-requires-clause-durable
 switch-requires-clause-durable g c =
     (subst (ArePrepared c.prepare_ranges.new.self (g.L.Lines.state c.prepare_ranges.new.dev).medium) (sym c.as_slice.ensures.value) c.in_ok-prepare_ranges.ensures.prepared).durable
 
-pub returns-clause-ok : goal.returns-clause-ok
-returns-clause-ok g c =
+pub returns : goal.returns
+returns g c =
     let s = c.args.self.now in
     let t = c.prepare_ranges.new.self in
     let m = (g.L.Lines.state c.args.dev.now).medium in
     let n = (g.L.Lines.state c.prepare_ranges.new.dev).medium in
     let ds = c.as_slice.result.now in
-    made_ok s t m n ds (before_from _ s t m n c.self.view_is c.prepare_ranges.ensures.before)
-    (subst (ArePrepared t n) (sym c.as_slice.ensures.value) c.in_ok-prepare_ranges.ensures.prepared) _
-    (ap (λ es. blocks_with es t n) c.as_slice.ensures.value ∙ c.in_ok-prepare_ranges.ensures.written ∙ ap (write_ranges c.args.ranges.now c.args.bytes.now) (none_with _ s m c.new-changes.result.items c.self.view_is c.new-changes.ensures))
-    _ c.switch.ensures.outside c.switch.result c.switch.new.self c.switch.ensures.object.0 c.switch.ensures.ok
-
-pub returns-clause-images : goal.returns-clause-images
-returns-clause-images g c =
-    let s = c.args.self.now in
-    let t = c.prepare_ranges.new.self in
-    let m = (g.L.Lines.state c.args.dev.now).medium in
-    let n = (g.L.Lines.state c.prepare_ranges.new.dev).medium in
-    let ds = c.as_slice.result.now in
-    made_images s t m n ds (before_from _ s t m n c.self.view_is c.prepare_ranges.ensures.before)
-    (subst (ArePrepared t n) (sym c.as_slice.ensures.value) c.in_ok-prepare_ranges.ensures.prepared) _
-    (ap (λ es. blocks_with es t n) c.as_slice.ensures.value ∙ c.in_ok-prepare_ranges.ensures.written ∙ ap (write_ranges c.args.ranges.now c.args.bytes.now) (none_with _ s m c.new-changes.result.items c.self.view_is c.new-changes.ensures))
-    _ c.switch.ensures.outside c.switch.ensures.images
-
-pub returns-clause-outside : goal.returns-clause-outside
-returns-clause-outside g c =
-    let s = c.args.self.now in
-    let t = c.prepare_ranges.new.self in
-    let m = (g.L.Lines.state c.args.dev.now).medium in
-    let n = (g.L.Lines.state c.prepare_ranges.new.dev).medium in
-    let ds = c.as_slice.result.now in
-    made_outside s t m n ds (before_from _ s t m n c.self.view_is c.prepare_ranges.ensures.before)
-    (subst (ArePrepared t n) (sym c.as_slice.ensures.value) c.in_ok-prepare_ranges.ensures.prepared) _
-    (ap (λ es. blocks_with es t n) c.as_slice.ensures.value ∙ c.in_ok-prepare_ranges.ensures.written ∙ ap (write_ranges c.args.ranges.now c.args.bytes.now) (none_with _ s m c.new-changes.result.items c.self.view_is c.new-changes.ensures))
-    _ c.switch.ensures.outside
-
-pub returns-clause-runs : goal.returns-clause-runs
-returns-clause-runs g c =
-    let count = apart_count c.args.self.now.geo.blocks (length c.args.bytes.now) c.args.ranges.now _ c.as_slice.result.now c.as_slice.ensures.value c.requires.apart c.requires.bytes c.in_ok-prepare_ranges.ensures.numbers in
-    runs_within _ _ _ _ _ _ _ (runs_then _ _ _ _ _ _ _ _ c.in_ok-prepare_ranges.ensures.runs c.switch.ensures.runs) (omega (arith, count)) (omega (arith, count))
+    let said = c.switch.ensures in
+    let before = before_from _ s t m n c.self.view_is c.prepare_ranges.ensures.before in
+    let prepared = subst (ArePrepared t n) (sym c.as_slice.ensures.value) c.in_ok-prepare_ranges.ensures.prepared in
+    let written = ap (λ es. blocks_with es t n) c.as_slice.ensures.value ∙ c.in_ok-prepare_ranges.ensures.written ∙ ap (write_ranges c.args.ranges.now c.args.bytes.now) (none_with _ s m c.new-changes.result.items c.self.view_is c.new-changes.ensures) in
+    let count = apart_count s.geo.blocks (length c.args.bytes.now) c.args.ranges.now _ ds c.as_slice.ensures.value c.requires.apart c.requires.bytes c.in_ok-prepare_ranges.ensures.numbers in
+    record {
+      ok = made_ok s t m n ds before prepared _ written _ said.outside c.switch.result c.switch.new.self said.object.0 said.ok;
+      images = made_images s t m n ds before prepared _ written _ said.outside said.images;
+      outside = made_outside s t m n ds before prepared _ written _ said.outside;
+      serves = said.serves;
+      object = search rules;
+      runs = runs_within _ _ _ _ _ _ _ (runs_then _ _ _ _ _ _ _ _ c.in_ok-prepare_ranges.ensures.runs said.runs) (omega (arith, count)) (omega (arith, count));
+    }

@@ -1,4 +1,4 @@
-use Rattle.std.proofs.Common.{◌/◌, length, refl, subst, ◌∙◌, arith}
+use Rattle.std.proofs.Common.{◌/◌, length, refl, subst, ◌∙◌, arith, rules}
 use Rattle.line_device.proofs.PanelLemmas.{runs-refl, runs_then, runs_within}
 use Rattle.nvm_model.specs.Blocks.{IsMixed}
 use Rattle.block_device.specs.Object.{blocks_of}
@@ -10,8 +10,8 @@ use Rattle.block_device.proofs.Blocks.write_blocks.Goals as goal
 pub loop-k-init : goal.loop-k-init
 loop-k-init g c = record { part = part_first (blocks_in c.args.block c.args.bytes.now) c.args.block _ _ c.requires.serves c.requires.settled; runs = runs-refl _ }
 
-pub returns-in_err-write_apart-clause-images : goal.returns-in_err-write_apart-clause-images
-returns-in_err-write_apart-clause-images g c =
+pub returns-in_err-write_apart : goal.returns-in_err-write_apart
+returns-in_err-write_apart g c =
     let s = c.args.self.now in
     let now = c.loop-k.self in
     let m = (g.L.Lines.state c.args.dev.now).medium in
@@ -20,13 +20,19 @@ returns-in_err-write_apart-clause-images g c =
     let at = c.args.block in
     let bytes = c.args.bytes.now in
     let to = blocks_in at bytes in
-    subst (λ bs. EachReads s.geo new (IsMixed (blocks_of s m) bs)) (written-all at (length bytes / 512) bytes (blocks_of s m) refl)
-    (part_images to at c.loop-k.k (length bytes / 512) s now m m' c.requires.good c.loop-k.invariant.part new (omega arith)
-    (subst (λ bs. EachReads now.geo new (IsEither (blocks_of now m') bs)) (piece_step at c.loop-k.k bytes (blocks_of now m') (omega arith)) c.in_err-write_apart.ensures.images))
-
-pub returns-in_err-write_apart-clause-outside : goal.returns-in_err-write_apart-clause-outside
-returns-in_err-write_apart-clause-outside g c =
-    part_outside (blocks_in c.args.block c.args.bytes.now) c.args.block c.loop-k.k 0 c.args.self.now c.loop-k.self _ _ c.requires.good c.loop-k.invariant.part _ c.in_err-write_apart.ensures.outside
+    let said = c.in_err-write_apart.ensures in
+    let part = c.loop-k.invariant.part in
+    record {
+      ok = search rules;
+      images =
+          subst (λ bs. EachReads s.geo new (IsMixed (blocks_of s m) bs)) (written-all at (length bytes / 512) bytes (blocks_of s m) refl)
+          (part_images to at c.loop-k.k (length bytes / 512) s now m m' c.requires.good part new (omega arith)
+          (subst (λ bs. EachReads now.geo new (IsEither (blocks_of now m') bs)) (piece_step at c.loop-k.k bytes (blocks_of now m') (omega arith)) said.images));
+      outside = part_outside to at c.loop-k.k 0 s now _ _ c.requires.good part _ said.outside;
+      serves = search rules;
+      object = search rules;
+      runs = search rules;
+    }
 
 pub loop-k-preserved : goal.loop-k-preserved
 loop-k-preserved g c =
@@ -44,16 +50,22 @@ loop-k-preserved g c =
       runs = runs_within _ _ _ _ _ _ _ (runs_then _ _ _ _ _ _ _ _ c.loop-k.invariant.runs after.runs) (omega arith) (omega arith);
     }
 
-pub returns-clause-ok : goal.returns-clause-ok
-returns-clause-ok g c =
-    c.loop-k.invariant.part.blocks ∙ written-all c.args.block c.loop-k.k c.args.bytes.now (blocks_of c.args.self.now (g.L.Lines.state c.args.dev.now).medium) (omega arith)
-
-pub returns-clause-images : goal.returns-clause-images
-returns-clause-images g c =
+pub returns : goal.returns
+returns g c =
     let s = c.args.self.now in
     let m = (g.L.Lines.state c.args.dev.now).medium in
     let m' = (g.L.Lines.state c.loop-k.dev).medium in
     let at = c.args.block in
     let bytes = c.args.bytes.now in
-    subst (λ bs. EachReads s.geo m' (IsMixed (blocks_of s m) bs)) (written-all at c.loop-k.k bytes (blocks_of s m) (omega arith))
-    (part_rest (blocks_in at bytes) at c.loop-k.k c.loop-k.k s c.loop-k.self m m' c.requires.good c.loop-k.invariant.part (omega arith))
+    let part = c.loop-k.invariant.part in
+    let all = written-all at c.loop-k.k bytes (blocks_of s m) (omega arith) in
+    record {
+      ok = part.blocks ∙ all;
+      images =
+          subst (λ bs. EachReads s.geo m' (IsMixed (blocks_of s m) bs)) all
+          (part_rest (blocks_in at bytes) at c.loop-k.k c.loop-k.k s c.loop-k.self m m' c.requires.good part (omega arith));
+      outside = search rules;
+      serves = search rules;
+      object = search rules;
+      runs = search rules;
+    }
