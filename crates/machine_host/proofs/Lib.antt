@@ -26,6 +26,7 @@ pub mod RestartLemmas
 pub mod RestartAnswerLemmas
 pub mod RemountLemmas
 pub mod SettlingLemmas
+pub mod WaitingLemmas
 pub mod VolumeFateLemmas
 pub mod FilesFateLemmas
 pub mod MappedLemmas

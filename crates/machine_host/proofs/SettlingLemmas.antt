@@ -33,11 +33,10 @@ use Rattle.machine_host.proofs.MountEffectLemmas.{Gives, IsMount}
 use Rattle.machine_host.proofs.RemountLemmas.{BroughtUp, done_up, kept_unmounted, serves_taken, serves_unmounted, stopped_up}
 use Rattle.machine_host.proofs.RestartLemmas.{keeps, serves_waited, stands_back}
 use Rattle.machine_host.proofs.StepLemmas.{stands_ordered}
+use Rattle.machine_host.proofs.WaitingLemmas.{waits-after}
 use Rattle.nvm_base.specs.Stock.{Stock}
 use Rattle.nvm_model.specs.Storage.{Event}
 use Rattle.file_pages.specs.Object.{PagesState}
-use Rattle.line_device.specs.History.{IsIn, WordWritesBack}
-use Rattle.line_device.proofs.HistoryLemmas.{is_in-word_write_back, word_write_back-trans}
 
 -- what was not armed is not armed later
 pub stays_off : (old new : Bool) → old ≡ false → (IsTrue new → IsTrue old) → new ≡ false
@@ -255,19 +254,6 @@ module _ (host : HostState) (old mid new : Device) (start : Start) (serves : Hos
   pub settles_back : {E : Type 0} (r : Result (Unit {0}) E) (after : HostState) → MountsAnew r back after mid new → Settles r host after old new
   settles_back (Ok u) after d = settled_back after d
   settles_back (Err e) after d = left_back after d
-
--- what a refused restart may leave, it may leave of lines that were written back before
-waits-after : (old mid new : Medium) → WritesBack old mid → Waits mid new → Waits old new
-waits-after old mid new x y = record {
-  count = y.count ∙ x.count;
-  bad = λ n. y.bad n ∙ x.bad n;
-  weak = λ n. y.weak n ∙ x.weak n;
-  words = λ p.
-      elim (y.words p) as (λ _. WordWritesBack (old.is_weak (p / 8)) (old.history p) (new.history p) ⊎ ((value : ℕ) × IsIn value (old.history p) × (new.history p ≡ value ∷ []))) [
-        | inl more ↦ inl (word_write_back-trans (old.is_weak (p / 8)) (old.history p) (mid.history p) (new.history p) (x.word_write_back p) (subst (λ b. WordWritesBack b (mid.history p) (new.history p)) (x.weak (p / 8)) more))
-        | inr one ↦ inr (one.0, is_in-word_write_back (old.is_weak (p / 8)) one.0 (old.history p) (mid.history p) (x.word_write_back p) one.1, one.2)
-      ];
-}
 
 -- A device that is disarmed first.
 module _ (host : HostState) (old quiet : Device) (serves : HostServes host old) (w : WritesBack old.medium quiet.medium) (panel : quiet.panel ≡ after_disarm old.panel) where
