@@ -334,34 +334,60 @@ def kept_block(unit, holds, others):
     return f" | block {unit[1]} {what}"
 
 
+def looked_at(read):
+    """The space that a read looks at, where it begins and how many bytes it has, and the numbers of its lines or blocks; None where it
+    is refused whatever is stored."""
+    word, *words = read.split()
+    first, count = map(int, words[-2:])
+    if word == "bread":
+        return None if span_fault(first, count, BLOCKS, 128) else (("block",), first, count, range(first, first + count))
+    if span_fault(first, count, SIZE if word == "vload" else first + count, 65536):
+        return None
+    return ("line",) if word == "vload" else ("file", words[0]), first, count, touched(first, count)
+
+
+def pages_of(files, name):
+    return files[name].pages if name in files else None
+
+
+def kept_sizes(looks, files, others):
+    """Of each file that is read and could be otherwise there, or of another length, how it is left."""
+    told = ""
+    for name in dict.fromkeys(space[1] for space, *_ in looks if space[0] == "file"):
+        pages = pages_of(files, name)
+        if any(pages_of(other, name) != pages for other in others):
+            told += f" | file {name} " + ("missing" if pages is None else f"pages {pages}")
+    return told
+
+
 def kept_text(place, reads, replies):
-    """What is told behind the answer of that place: each unit is left as it was where it suits so, and else as the command makes it, and
-    so are all files where they change together."""
+    """What is told behind the answer of that place, of all that the reads look at: each unit is left as it was where it suits so, and
+    else as the command makes it, and so are all files where they change together."""
     _, state, worlds = place
-    told_of = [(read, reply) for read, reply in zip(reads, replies) if reply != "_"]
+    looks = [look for look in map(looked_at, reads) if look]
 
     def options(world, unit):
         return world.get(unit) or (state.unit(unit, world.get("files")),)
 
     def left(world):
-        """The reads, by where they begin and how long they are, what is wanted, and what each unit that they look at holds."""
+        """The files, what is wanted, and what each unit holds that is there and looked at."""
         files = world.get("files", state.files)
-        parts = [parts_of(read, files) for read, _ in told_of]
         wants = wants_of(reads, replies, files)
-        units = dict.fromkeys(unit for _, _, _, some in parts for unit in some)
-        suiting = {} if wants is None else {
-            unit: [holds for holds in options(world, unit) if suits(unit, holds, wants.get(unit, []))] for unit in units}
-        fits = wants is not None and all(suiting.values())
-        return (parts, wants, {unit: some[0] for unit, some in suiting.items()}) if fits else None
+        if wants is None:
+            return None
+        units = dict.fromkeys((*space, n) for space, _, _, numbers in looks for n in numbers)
+        units = [unit for unit in units if state.unit(unit, files) is not None]
+        suiting = {unit: [holds for holds in options(world, unit) if suits(unit, holds, wants.get(unit, []))] for unit in units}
+        return (files, wants, {unit: some[0] for unit, some in suiting.items()}) if all(suiting.values()) else None
 
-    parts, wants, chosen = next(filter(None, map(left, worlds)))
-    told = ""
-    for unit in sorted(chosen, key=lambda unit: ["line", "block", "file"].index(unit[0])):
-        others = [state.unit(unit), *(holds for world in worlds for holds in options(world, unit))]
+    files, wants, chosen = next(filter(None, map(left, worlds)))
+    told = {"line": "", "block": "", "file": kept_sizes(looks, files, [state.files, *(world.get("files", state.files) for world in worlds)])}
+    for unit, holds in chosen.items():
+        others = [state.unit(unit), *(other for world in worlds for other in options(world, unit))]
         if unit[0] == "block":
-            told += kept_block(unit, chosen[unit], others)
+            told["block"] += kept_block(unit, holds, others)
         else:
             windows = [want for want in wants.get(unit, []) if isinstance(want, tuple)]
-            asked = [(first, size) for _, first, size, some in parts if some and some[0][:-1] == unit[:-1]]
-            told += kept_line(unit, chosen[unit], others, windows, asked)
-    return told
+            asked = [(first, size) for space, first, size, _ in looks if space == unit[:-1]]
+            told[unit[0]] += kept_line(unit, holds, others, windows, asked)
+    return "".join(told.values())

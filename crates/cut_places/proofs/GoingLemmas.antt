@@ -1,5 +1,5 @@
 -- A program is followed, line by line.
-use Rattle.std.proofs.Common.{◌≡◌, ◌+◌, ◌-◌, ◌<◌, ◌≤◌, ◌&&◌, ℕ, zero, suc, Bool, true, false, cond, IsTrue, Option, Some, None, List, [], ◌∷◌, length, drop, drop-cons, get_or, slice_get, refl, sym, ap, subst, ◌∙◌, arith}
+use Rattle.std.proofs.Common.{◌≡◌, ◌+◌, ◌-◌, ◌<◌, ◌≤◌, ℕ, zero, suc, Bool, true, false, cond, IsTrue, Option, Some, None, List, [], ◌∷◌, length, drop, drop-cons, get_or, slice_get, refl, sym, ap, subst, ◌∙◌, arith}
 use Rattle.std.specs.Option.{IfSome, is_none, is_some}
 use Rattle.std.proofs.lemmas.List.{drop_all}
 use Rattle.word_tables.specs.declared.geometry.Geometry.{Geometry}
@@ -18,14 +18,16 @@ use Rattle.cut_places.specs.declared.sight.Sight.{Sight}
 use Rattle.cut_places.specs.Following.{AreDone, Explores, Follows, IsAt, IsFirst, IsIn, IsWhole, IsWithin, ShowsAt, ShowsIn, command_stops}
 use Rattle.cut_places.specs.Places.{cut_places, first_stop}
 use Rattle.cut_places.specs.Sights.{shows}
-use Rattle.cut_places.proofs.MayShowLemmas.{shows_now}
+use Rattle.cut_places.specs.Enough.{IsEnough}
+use Rattle.cut_places.proofs.EnoughLemmas.{enough_now}
 use Rattle.cut_places.proofs.StopLemmas.{none_before, some_before}
 
 -- The lines before this one show nothing, and what is behind them tells what all do.
 pub record Goes (program : List (Option Command)) (done : List Bool) (q : Question) (geo : Geometry) (began : Sight) (i : ℕ) (now : Sight) : Type 0 where
-  pub whole : IsWhole now q
+  pub whole : (other : Question) → IsWhole began other → IsWhole now other
+  pub enough : IsEnough began q → IsEnough now q
   pub within : IsWithin now geo
-  pub comes : (h : Machine) (look : List Seen) → Follows began geo h → AreDone h program done → IsLook look q
+  pub comes : (h : Machine) (look : List Seen) → Follows began geo h → IsEnough began q → AreDone h program done → IsLook look q
       → (to : Machine) × Follows now geo to × AreDone to (drop i program) (drop i done)
       × (first_stop (may_show look) (cut_places 1 h (inputs_of_lines program)) ≡ first_stop (may_show look) (cut_places (i + 1) to (inputs_of_lines (drop i program))))
 
@@ -77,8 +79,8 @@ line_there [] i line lt is = absurd (omega (arith, lt))
 line_there (first ∷ program) zero line lt is = ap Some (sym is)
 line_there (first ∷ program) (suc i) line lt is = line_there program i line (omega (arith, lt)) is
 
-pub goes_first : (program : List (Option Command)) (done : List Bool) (q : Question) (geo : Geometry) (began : Sight) → IsWhole began q → IsWithin began geo → Goes program done q geo began 0 began
-goes_first program done q geo began whole within = record { whole = whole; within = within; comes = λ h look follows told shown. (h, follows, told, refl) }
+pub goes_first : (program : List (Option Command)) (done : List Bool) (q : Question) (geo : Geometry) (began : Sight) → IsWithin began geo → Goes program done q geo began 0 began
+goes_first program done q geo began within = record { whole = λ other whole. whole; enough = λ enough. enough; within = within; comes = λ h look follows enough told shown. (h, follows, told, refl) }
 
 module _ (program : List (Option Command)) (done : List Bool) (q : Question) (geo : Geometry) (began : Sight) (i : ℕ) (now : Sight)
     (goes : Goes program done q geo began i now) (line : Option Command) (is_done : Bool) (lt : i < length program) (same : length done ≡ length program)
@@ -97,9 +99,10 @@ module _ (program : List (Option Command)) (done : List Bool) (q : Question) (ge
   pub goes_past : line ≡ None → Goes program done q geo began (i + 1) now
   goes_past none = record {
     whole = goes.whole;
+    enough = goes.enough;
     within = goes.within;
-    comes = λ h look follows all shown.
-        let before = goes.comes h look follows all shown in (
+    comes = λ h look follows enough all shown.
+        let before = goes.comes h look follows enough all shown in (
           before.0,
           before.1,
           subst (λ l. AreDone before.0 (l ∷ drop (i + 1) program) (is_done ∷ drop (i + 1) done)) none (told_next before.0 before.2),
@@ -136,13 +139,13 @@ module _ (program : List (Option Command)) (done : List Bool) (q : Question) (ge
       shown.1,
     )
 
-    of_found : (after : Sight) (found : Option CutPlace) → is_some found ≡ true → (h : Machine) (look : List Seen) → Follows began geo h → AreDone h program done → IsLook look q
+    of_found : (after : Sight) (found : Option CutPlace) → is_some found ≡ true → (h : Machine) (look : List Seen) → Follows began geo h → IsEnough began q → AreDone h program done → IsLook look q
         → ((to : Machine) → Follows now geo to → is_none (refusal to (action_of command)) ≡ is_done
         → Explores (i + 1) (action_of command) look after geo to found)
         → IsFirst program look after geo (cut_places 1 h (inputs_of_lines program)) found
-    of_found after None has h look follows all shown explores = cc has
-    of_found after (Some place) has h look follows all shown explores =
-        let before = goes.comes h look follows all shown in
+    of_found after None has h look follows enough all shown explores = cc has
+    of_found after (Some place) has h look follows enough all shown explores =
+        let before = goes.comes h look follows enough all shown in
         let state = before.0 in
         let explored = explores state before.1 (told_of state before.2).0 in (
           explored.0,
@@ -154,25 +157,26 @@ module _ (program : List (Option Command)) (done : List Bool) (q : Question) (ge
         )
 
     pub found_first : (after : Sight) (found : Option CutPlace) → is_some found ≡ true
-        → ((h : Machine) (look : List Seen) → Follows now geo h → IsLook look q → is_none (refusal h (action_of command)) ≡ is_done
+        → ((h : Machine) (look : List Seen) → Follows now geo h → IsEnough now q → IsLook look q → is_none (refusal h (action_of command)) ≡ is_done
         → Explores (i + 1) (action_of command) look after geo h found)
-        → (h : Machine) (look : List Seen) → Follows began geo h → AreDone h program done → IsLook look q → IsFirst program look after geo (cut_places 1 h (inputs_of_lines program)) found
-    found_first after found has explores h look follows all shown = of_found after found has h look follows all shown (λ to at is_as. explores to look at shown is_as)
+        → (h : Machine) (look : List Seen) → Follows began geo h → IsEnough began q → AreDone h program done → IsLook look q → IsFirst program look after geo (cut_places 1 h (inputs_of_lines program)) found
+    found_first after found has explores h look follows enough all shown = of_found after found has h look follows enough all shown (λ to at is_as. explores to look at (goes.enough enough) shown is_as)
 
     -- a command after which nothing is found
-    pub goes_on : (after : Sight) (found : Option CutPlace) → is_some found ≡ false → IsWhole after q → IsWithin after geo
-        → ((h : Machine) (look : List Seen) → Follows now geo h → IsLook look q → is_none (refusal h (action_of command)) ≡ is_done
+    pub goes_on : (after : Sight) (found : Option CutPlace) → is_some found ≡ false → ((other : Question) → IsWhole now other → IsWhole after other) → (IsEnough now q → IsEnough after q) → IsWithin after geo
+        → ((h : Machine) (look : List Seen) → Follows now geo h → IsEnough now q → IsLook look q → is_none (refusal h (action_of command)) ≡ is_done
         → Explores (i + 1) (action_of command) look after geo h found)
         → Goes program done q geo began (i + 1) after
-    goes_on after found has whole within explores = record {
-      whole = whole;
+    goes_on after found has whole still within explores = record {
+      whole = λ other began_whole. whole other (goes.whole other began_whole);
+      enough = λ enough. still (goes.enough enough);
       within = within;
-      comes = λ h look follows all shown.
-          let before = goes.comes h look follows all shown in
+      comes = λ h look follows enough all shown.
+          let before = goes.comes h look follows enough all shown in
           let state = before.0 in
           let after_it = led_to state (fate state (action_of command)) in
           let of = told_of state before.2 in
-          let explored = subst (Explores (i + 1) (action_of command) look after geo state) (none_is found has) (explores state look before.1 shown of.0) in (
+          let explored = subst (Explores (i + 1) (action_of command) look after geo state) (none_is found has) (explores state look before.1 (goes.enough enough) shown of.0) in (
             after_it,
             explored.1,
             of.1,
@@ -185,15 +189,14 @@ module _ (program : List (Option Command)) (done : List Bool) (q : Question) (ge
 module _ (program : List (Option Command)) (done : List Bool) (q : Question) (geo : Geometry) (began : Sight) (i : ℕ) (now : Sight) (goes : Goes program done q geo began i now) where
   -- behind the last line
   pub at_end : (told : Bool) → shows q now ≡ told → length program ≤ i → i ≤ length program → may_be_replies geo q ≡ true
-      → (h : Machine) (look : List Seen) → Follows began geo h → AreDone h program done → IsLook look q
+      → (h : Machine) (look : List Seen) → Follows began geo h → IsEnough began q → AreDone h program done → IsLook look q
       → IsFirst program look now geo (cut_places 1 h (inputs_of_lines program)) (cond told (Some (Before (length program + 1))) None)
-  at_end told told_is ends last replies h look follows all shown =
-      let before = goes.comes h look follows all shown in
+  at_end told told_is ends last replies h look follows enough all shown =
+      let before = goes.comes h look follows enough all shown in
       let state = before.0 in
       let at : i ≡ length program = omega (arith, ends, last) in
       let seen_at : may_show look state ≡ told =
-      shows_now state look q now shown before.1.sees goes.whole before.1.ready.settled
-      ∙ ap (λ r. r && shows q now) (ap (λ sizes. may_be_replies sizes q) before.1.sizes ∙ replies) ∙ told_is in
+      enough_now state look q now shown before.1.sees (goes.enough enough) (ap (λ sizes. may_be_replies sizes q) before.1.sizes ∙ replies) before.1.ready.settled ∙ told_is in
       of_told told state before.1
       (before.3 ∙ ap (λ lines. first_stop (may_show look) (cut_places (i + 1) state (inputs_of_lines lines))) (drop_all i program ends)
       ∙ ap (λ b. cond b (Some (record { place = Before (i + 1); state = state })) None) seen_at ∙ ap (λ n. cond told (Some (record { place = Before (n + 1); state = state })) None) at)

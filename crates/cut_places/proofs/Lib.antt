@@ -13,7 +13,12 @@ pub mod InsideLemmas
 pub mod LeavingLemmas
 pub mod LeftLinesLemmas
 pub mod ReplyLemmas
+pub mod ValueLemmas
+pub mod AmongLemmas
+pub mod AsideLemmas
+pub mod CoverLemmas
 pub mod MayShowLemmas
+pub mod EnoughLemmas
 pub mod StopLemmas
 pub mod WorkLemmas
 pub mod StepLemmas

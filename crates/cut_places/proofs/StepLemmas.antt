@@ -40,7 +40,9 @@ use Rattle.sights.specs.Units.{AreAmong, AreBlocks, AreLines, AreWithin, block_m
 use Rattle.sights.specs.Ways.{blocks_way, passes_inside}
 use Rattle.sights.proofs.BlockChangeLemmas.{blocks_changed}
 use Rattle.sights.proofs.InsideLemmas.{AreThere, HaveLine}
-use Rattle.cut_places.proofs.MayShowLemmas.{shows_now, shows_within}
+use Rattle.cut_places.specs.Enough.{HasWords, IsAmong, IsEnough}
+use Rattle.cut_places.proofs.EnoughLemmas.{enough_now, enough_within}
+use Rattle.cut_places.proofs.ValueLemmas.{changed_has}
 use Rattle.sights.proofs.SizeLemmas.{geometry_stays}
 use Rattle.sights.proofs.VolumeChangeLemmas.{volume_changed}
 use Rattle.cut_places.proofs.WorkLemmas.{ChangesNone, IsWork, unchanged_fits, works_or_none}
@@ -125,6 +127,24 @@ whole_after geo action q now after whole lines blocks files = record {
   files = ap (λ (s : FilesState). are_held s.numbers (files_asked q)) files ∙ whole.files;
 }
 
+-- and at enough, with a value for each word
+after_among : (geo : Geometry) (action : Action) (lines : List LineSeen) → ((s : LineSeen) → IsAmong s lines → HasWords s.line)
+    → (s : LineSeen) → IsAmong s (map (line_once_done geo action) lines) → HasWords s.line
+after_among geo action [] has s is = absurd is
+after_among geo action (x ∷ lines) has s (inl same) =
+    subst (λ (t : LineSeen). HasWords t.line) (sym same) (changed_has (volume_change geo action) x.number x.line (has x (inl refl)))
+after_among geo action (x ∷ lines) has s (inr later) = after_among geo action lines (λ t is. has t (inr is)) s later
+
+pub enough_after : (geo : Geometry) (action : Action) (q : Question) (now after : Sight) → IsEnough now q
+    → after.lines.items ≡ map (line_once_done geo action) now.lines.items → after.blocks.items ≡ map (block_once_done geo action) now.blocks.items
+    → after.files ≡ files_once_done action now.files → IsEnough after q
+enough_after geo action q now after enough lines blocks files = record {
+  lines = λ n is. subst (IsAmong n) (sym (ap line_numbers lines ∙ line_numbers_stay geo action now.lines.items)) (enough.lines n is);
+  blocks = λ n is. subst (IsAmong n) (sym (ap block_numbers blocks ∙ block_numbers_stay geo action now.blocks.items)) (enough.blocks n is);
+  files = ap (λ (s : FilesState). are_held s.numbers (files_asked q)) files ∙ enough.files;
+  words = λ s is. after_among geo action now.lines.items enough.words s (subst (IsAmong s) lines is);
+}
+
 pub within_after : (sizes geo : Geometry) (action : Action) (now after : Sight) → IsWithin now sizes
     → after.lines.items ≡ map (line_once_done geo action) now.lines.items → after.blocks.items ≡ map (block_once_done geo action) now.blocks.items → IsWithin after sizes
 within_after sizes geo action now after within lines blocks = record {
@@ -167,10 +187,10 @@ ready_after h action ready program allowed =
       failures = kept.failures ∙ ready.failures;
     }
 
-module _ (look : List Seen) (q : Question) (now : Sight) (h : Machine) (is : IsLook look q) (sees : Sees now h) (whole : IsWhole now q) (ready : IsReady h)
+module _ (look : List Seen) (q : Question) (now : Sight) (h : Machine) (is : IsLook look q) (sees : Sees now h) (enough : IsEnough now q) (ready : IsReady h)
     (replies : may_be_replies h.geometry q ≡ true) (line : ℕ) (action : Action) where
   shown : (b : Bool) → shows q now ≡ b → may_show look h ≡ b
-  shown b told = shows_now h look q now is sees whole ready.settled ∙ ap (λ r. r && shows q now) replies ∙ told
+  shown b told = enough_now h look q now is sees enough replies ready.settled ∙ told
 
   pub found_before : shows q now ≡ true → first_stop (may_show look) (command_stops line h action) ≡ Some (record { place = Before line; state = h })
   found_before told =
@@ -190,8 +210,7 @@ module _ (look : List Seen) (q : Question) (now : Sight) (h : Machine) (is : IsL
   module _ (allowed : refusal h action ≡ None) (within : IsWithin now h.geometry) where
     cut_shown : (b : Bool) → shows_inside h.geometry action q now ≡ b → may_show look (while_interrupted h action) ≡ b
     cut_shown b told =
-        shows_within h look q now is sees whole action allowed ready.whole (lines_of h now ready within) (blocks_in h now ready within)
-        ∙ ap (λ r. r && shows_inside h.geometry action q now) replies ∙ told
+        enough_within h look q now is sees enough replies action allowed ready.whole (lines_of h now ready within) (blocks_in h now ready within) ∙ told
 
     by_fate : (b : Bool) → may_show look (while_interrupted h action) ≡ b → (to : Fate) → first_stop (may_show look) (map (λ m. record { place = Inside line; state = m }) (inside h action to)) ≡ None
         ⊎ (first_stop (may_show look) (map (λ m. record { place = Inside line; state = m }) (inside h action to)) ≡ cond b (Some (record { place = Inside line; state = while_interrupted h action })) None)
@@ -229,25 +248,25 @@ module _ (look : List Seen) (q : Question) (now : Sight) (h : Machine) (is : IsL
         by_kind (inr none) = absurd (both_ways (shows q now) told (sym (same_inside none) ∙ inside_told))
 
 -- what comes of one command, where the look was shown before it
-pub before_explored : (look : List Seen) (q : Question) (now : Sight) (geo : Geometry) (h : Machine) (line : ℕ) (action : Action) → IsLook look q → IsWhole now q → may_be_replies geo q ≡ true
+pub before_explored : (look : List Seen) (q : Question) (now : Sight) (geo : Geometry) (h : Machine) (line : ℕ) (action : Action) → IsLook look q → IsEnough now q → may_be_replies geo q ≡ true
     → shows q now ≡ true → Follows now geo h → Explores line action look now geo h (Some (Before line))
-before_explored look q now geo h line action is whole replies told follows = (
+before_explored look q now geo h line action is enough replies told follows = (
   record { place = Before line; state = h },
-  found_before look q now h is follows.sees whole follows.ready (ap (λ sizes. may_be_replies sizes q) follows.sizes ∙ replies) line action told,
+  found_before look q now h is follows.sees enough follows.ready (ap (λ sizes. may_be_replies sizes q) follows.sizes ∙ replies) line action told,
   refl,
   follows,
 )
 
 -- and where it was not
 module _ (look : List Seen) (q : Question) (now after : Sight) (geo : Geometry) (h : Machine) (line : ℕ) (action : Action)
-    (is : IsLook look q) (whole : IsWhole now q) (replies : may_be_replies geo q ≡ true) (told : shows q now ≡ false) (follows : Follows now geo h) where
+    (is : IsLook look q) (enough : IsEnough now q) (replies : may_be_replies geo q ≡ true) (told : shows q now ≡ false) (follows : Follows now geo h) where
   at_state : may_be_replies h.geometry q ≡ true
   at_state = ap (λ sizes. may_be_replies sizes q) follows.sizes ∙ replies
 
   of_refused : (o : Option Answer) → refusal h action ≡ o → is_none o ≡ false → Explores line action look now geo h None
   of_refused None is_refused refused = cc refused
   of_refused (Some why) is_refused refused = (
-    none_refused look q now h is follows.sees whole follows.ready at_state line action why told is_refused,
+    none_refused look q now h is follows.sees enough follows.ready at_state line action why told is_refused,
     subst (Follows now geo) (sym (ap (λ o. led_to h (unless_refused h o ((meaning action).comes h))) is_refused)) follows,
   )
 
@@ -271,7 +290,7 @@ module _ (look : List Seen) (q : Question) (now after : Sight) (geo : Geometry) 
     by_found : (found : Option CutPlace) → Passes h.geometry action line q now after found → Explores line action look after geo h found
     unfolding cut_state
     by_found None passes = (
-      none_inside look q now h is follows.sees whole follows.ready at_state line action allowed lines_in told passes.0,
+      none_inside look q now h is follows.sees enough follows.ready at_state line action allowed lines_in told passes.0,
       subst (Follows after geo) (sym (ap (led_to h) (fate_of h action allowed))) (record {
         ready = ready_after h action follows.ready program allowed;
         sizes = geometry_stays h action ∙ follows.sizes;
@@ -280,7 +299,7 @@ module _ (look : List Seen) (q : Question) (now after : Sight) (geo : Geometry) 
     )
     by_found (Some place) passes = (
       record { place = Inside line; state = cut_state },
-      found_inside look q now h is follows.sees whole follows.ready at_state line action allowed lines_in told passes.0,
+      found_inside look q now h is follows.sees enough follows.ready at_state line action allowed lines_in told passes.0,
       sym passes.1,
       subst (λ p. IsIn line action after geo p cut_state) (sym passes.1)
           (refl, record { before = h; follows = subst (λ s. Follows s geo h) (sym passes.2) follows; done = allowed; is = refl }),
@@ -290,10 +309,15 @@ module _ (look : List Seen) (q : Question) (now after : Sight) (geo : Geometry) 
     done_explored found passes = by_found found (subst (λ sizes. Passes sizes action line q now after found) (sym follows.sizes) passes)
 
 -- what is looked at stays whole, and within the sizes
-pub passes_whole : (geo : Geometry) (action : Action) (line : ℕ) (q : Question) (now after : Sight) (found : Option CutPlace) → Passes geo action line q now after found
-    → IsWhole now q → IsWhole after q
-passes_whole geo action line q now after None passes whole = whole_after geo action q now after whole passes.1 passes.2 passes.3
-passes_whole geo action line q now after (Some place) passes whole = subst (λ s. IsWhole s q) (sym passes.2) whole
+pub passes_whole : (geo : Geometry) (action : Action) (line : ℕ) (q other : Question) (now after : Sight) (found : Option CutPlace) → Passes geo action line q now after found
+    → IsWhole now other → IsWhole after other
+passes_whole geo action line q other now after None passes whole = whole_after geo action other now after whole passes.1 passes.2 passes.3
+passes_whole geo action line q other now after (Some place) passes whole = subst (λ s. IsWhole s other) (sym passes.2) whole
+
+pub passes_enough : (geo : Geometry) (action : Action) (line : ℕ) (q asked : Question) (now after : Sight) (found : Option CutPlace) → Passes geo action line q now after found
+    → IsEnough now asked → IsEnough after asked
+passes_enough geo action line q asked now after None passes enough = enough_after geo action asked now after enough passes.1 passes.2 passes.3
+passes_enough geo action line q asked now after (Some place) passes enough = subst (λ s. IsEnough s asked) (sym passes.2) enough
 
 pub passes_within : (geo : Geometry) (action : Action) (line : ℕ) (q : Question) (now after : Sight) (found : Option CutPlace) → Passes geo action line q now after found
     → IsWithin now geo → IsWithin after geo

@@ -9,6 +9,7 @@ pub mod FileLeaving
 pub mod FileMixing
 pub mod Sights
 pub mod Places
+pub mod Enough
 pub mod Following
 pub use Rattle.sights.specs.AskedReads
 pub use Rattle.sights.specs.Durable

@@ -4,8 +4,10 @@ ghost use Rattle.word_tables.specs.Bounds.{IsValid};
 ghost use Rattle.sights.specs.MachineModel.Machine.{Machine};
 ghost use Rattle.sights.specs.Outcomes.Seen.{Seen};
 ghost use Rattle.sights.specs.Outcomes.Stops.{IsProgram};
+ghost use Rattle.sights.specs.AskedReads.declared.question.Question.{Question};
 ghost use Rattle.sights.specs.AskedReads.Asking.{IsLook, may_be_replies};
 ghost use Rattle.sights.specs.AskedReads.Program.{IsBounded, inputs_of_lines};
+ghost use Rattle.cut_places.specs.Enough.{IsEnough};
 ghost use Rattle.cut_places.specs.Following.{AreDone, Follows, IsFirst, IsWhole, IsWithin, ShowsAt};
 ghost use Rattle.cut_places.specs.Places.{cut_places};
 
@@ -18,8 +20,8 @@ use std::alloc::AllocError;
 use word_tables::Geometry;
 
 /// The first place of a cut in the program after which the question's look may show what it asks for, None where no cut leaves it. A
-/// line of the program without a command is None; `done` has which commands the machine does not refuse. What is looked at is then
-/// that of the place, before what is interrupted there.
+/// line of the program without a command is None; `done` has which commands the machine does not refuse. More may be looked at than the
+/// question asks about. What is looked at is then that of the place, before what is interrupted there.
 pub fn find(
     program: &[Option<Command>],
     done: &[bool],
@@ -31,13 +33,12 @@ pub fn find(
     requires program { IsProgram (inputs_of_lines program.now) }
     requires bounded { All IsBounded program.now }
     requires told { length done.now ≡ length program.now }
-    requires whole { IsWhole sight.old question.now }
     requires within { IsWithin sight.old geometry }
     requires replies { may_be_replies geometry question.now ≡ true }
-    ensures first { (h : Machine) (look : List Seen) → Follows sight.old geometry h → AreDone h program.now done.now → IsLook look question.now
+    ensures first { (h : Machine) (look : List Seen) → Follows sight.old geometry h → IsEnough sight.old question.now → AreDone h program.now done.now → IsLook look question.now
         → IfOk result (IsFirst program.now look sight.new geometry (cut_places 1 h (inputs_of_lines program.now))) }
     ensures shown { IfOk result (λ found. IfSome found (ShowsAt program.now question.now sight.new geometry)) }
-    ensures whole { OnOk result (IsWhole sight.new question.now) }
+    ensures whole { (other : Question) → IsWhole sight.old other → OnOk result (IsWhole sight.new other) }
     ensures within { OnOk result (IsWithin sight.new geometry) }
 {
     for (i, line) in program.iter().enumerate() {

@@ -7,7 +7,9 @@ ghost use Rattle.sights.specs.MachineModel.Machine.{Machine};
 ghost use Rattle.sights.specs.MachineModel.Commands.{refusal};
 ghost use Rattle.sights.specs.Outcomes.Seen.{Seen};
 ghost use Rattle.sights.specs.Outcomes.Stops.{is_of_program};
+ghost use Rattle.sights.specs.AskedReads.declared.question.Question.{Question};
 ghost use Rattle.sights.specs.AskedReads.Asking.{IsLook, may_be_replies};
+ghost use Rattle.cut_places.specs.Enough.{IsEnough};
 ghost use Rattle.cut_places.specs.Following.{Explores, Follows, IsWhole, IsWithin, Passes, ShowsIn};
 
 use crate::place::CutPlace;
@@ -30,14 +32,14 @@ pub fn step(
     requires valid { IsValid geometry }
     requires program { IsTrue (is_of_program (action_of command.now)) }
     requires bounded { InBounds (action_of command.now) }
-    requires whole { IsWhole sight.old question.now }
     requires within { IsWithin sight.old geometry }
     requires replies { may_be_replies geometry question.now ≡ true }
-    ensures explores { (h : Machine) (look : List Seen) → Follows sight.old geometry h → IsLook look question.now
+    ensures explores { (h : Machine) (look : List Seen) → Follows sight.old geometry h → IsEnough sight.old question.now → IsLook look question.now
         → is_none (refusal h (action_of command.now)) ≡ done
         → IfOk result (Explores line (action_of command.now) look sight.new geometry h) }
     ensures shown { IfOk result (λ found. IfSome found (ShowsIn line (action_of command.now) question.now sight.new geometry)) }
-    ensures whole { OnOk result (IsWhole sight.new question.now) }
+    ensures enough { IsEnough sight.old question.now → OnOk result (IsEnough sight.new question.now) }
+    ensures whole { (other : Question) → IsWhole sight.old other → OnOk result (IsWhole sight.new other) }
     ensures within { OnOk result (IsWithin sight.new geometry) }
 {
     if sight.shows(question) {

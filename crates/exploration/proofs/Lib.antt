@@ -6,6 +6,7 @@ pub mod PartLemmas
 pub mod ScriptLemmas
 pub mod PerformLemmas
 pub mod ReadLemmas
+pub mod AnswerableLemmas
 pub mod AskLemmas
 pub mod FitLemmas
 pub mod SeenLemmas

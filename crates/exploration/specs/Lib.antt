@@ -6,6 +6,7 @@ pub mod Lines
 pub mod Program
 pub mod Exploration
 pub mod Performing
+pub mod Answerable
 pub mod Reading
 pub mod Steps
 pub mod Rows

@@ -3,6 +3,7 @@ ghost use Rattle.script_text.specs.Action.{Action};
 ghost use Rattle.reply_text.specs.Answer.{Answer};
 ghost use Rattle.outcomes.specs.Seen.{Seen, answer, command};
 ghost use Rattle.word_tables.specs.declared.geometry.Geometry.{Geometry};
+ghost use Rattle.exploration.specs.Answerable.{AllSeenBy};
 ghost use Rattle.exploration.specs.Exploration.{Exploration, script_of};
 ghost use Rattle.exploration.specs.Exploration.Script.{Taken};
 ghost use Rattle.exploration.specs.Performing.{IsPerformed};
@@ -20,6 +21,11 @@ pub fn what_is_seen_was_asked()
 /// The program asked about, and its reads, are what a host performs of the script.
 pub fn what_is_asked_is_performed()
     ensures { (geo : Geometry) (text : List ℕ) (e : Exploration) → script_of geo text ≡ Taken e → IsPerformed text e }
+{}
+
+/// What a question asks are reads of the look, each with a reply that it may have on a device of these sizes.
+pub fn what_is_asked_was_read()
+    ensures { (geo : Geometry) (text : List ℕ) (e : Exploration) → script_of geo text ≡ Taken e → AllSeenBy geo e.reads e.questions }
 {}
 
 /// No two reasons have one text.

@@ -21,6 +21,9 @@ mod telling;
 
 pub use asking::{Asking, Wanted};
 pub use exploration::{Exploration, ScriptFault, read_script};
-pub use laws::{each_reason_has_its_text, what_is_asked_is_performed, what_is_seen_was_asked};
+pub use laws::{
+    each_reason_has_its_text, what_is_asked_is_performed, what_is_asked_was_read,
+    what_is_seen_was_asked,
+};
 pub use reason::Reason;
 pub use rows::{worked_marks, worked_scripts};

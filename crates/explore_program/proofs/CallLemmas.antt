@@ -27,6 +27,8 @@ use Rattle.exploration.specs.declared.exploration.ScriptFault.{ScriptFault}
 use Rattle.exploration.specs.declared.exploration.ScriptFault.TheVariants as script
 use Rattle.outcome_lists.specs.Explorer.Stopping.{NoneFell}
 use Rattle.outcome_lists.specs.CutPlaces.Places.{Stop as Place, found_stop}
+use Rattle.outcome_lists.specs.Explorer.Tabulating.{looked}
+use Rattle.exploration.proofs.AnswerableLemmas.{all_seen}
 use Rattle.program_base.specs.Ending.{status}
 use Rattle.program_base.specs.Opening.{FailsToOpen, IsHeld, opened}
 use Rattle.program_base.specs.World.{World}
@@ -34,11 +36,12 @@ use Rattle.program_base.specs.Writing.{WritesFront, WritesLine}
 use Rattle.program_base.proofs.BytesLemmas.{appends_then}
 use Rattle.program_base.specs.declared.ending.Ending.{Ending}
 use Rattle.program_base.specs.declared.ending.Ending.TheVariants as endings
-use Rattle.explore_program.specs.Calls.{AnswersAll, AreCommands, AreTheorems, Fails, Halts, IsCaused, IsTaken, IsUnanswered, IsUnread, LeavesImages, Outcome, TellsShown, asked_first, begun, found, most, reads_of, refused_text}
+use Rattle.explore_program.specs.Calls.{AllAskOf, AnswersAll, AreCommands, AreTheorems, Fails, Halts, IsCaused, IsTaken, IsUnanswered, IsUnread, LeavesImages, Outcome, TellsShown, asked_first, begun, found, looked_at, most, reads_of, refused_text}
 use Rattle.explore_program.specs.Showing.{begun_at, refusals, shown}
 use Rattle.explore_program.specs.Stops.{of_script, stop_status}
 use Rattle.explore_program.specs.declared.stop.Stop.{Stop}
 use Rattle.explore_program.specs.declared.stop.Stop.TheVariants as stops
+use Rattle.explore_program.proofs.AskingLemmas.{all_ask}
 use Rattle.explore_program.proofs.CauseLemmas.{unanswered_later}
 use Rattle.explore_program.proofs.ProgramLemmas.{same_inputs}
 use Rattle.explore_program.proofs.ReadingLemmas.{rose-from}
@@ -108,6 +111,12 @@ module _ (h : Machine) (x : Read) (e : Exploration) (holds : IsExplored e x) whe
   same_first : read_refused h x ++ read_shown h x ≡ asked_first h e
   same_first = ap₂ (λ r t. r ++ t) same_refused same_shown
 
+  reads_same : x.reads.items ≡ reads_of e.reads
+  reads_same = sym (reads_are x.reads.items) ∙ ap reads_of holds.reads
+
+  same_looked : looked h.geometry x.reads.items ≡ looked_at h e
+  same_looked = ap (looked h.geometry) reads_same
+
   same_found : read_found h x ≡ found h e
   same_found = ap₂ (λ f p. found_stop (begun_at h f) p) first_is program_is
 
@@ -126,15 +135,15 @@ unanswered_counted (stops.Script n why) a b c old new later cause = cause
 unanswered_counted stops.Usage a b c old new later cause = cause
 
 -- answers behind a text
-pub behind_shown : (table front : List ℕ) (tell : List Seen → Option Place) (asked : List Asked) (result : Result Bool Stop) (old mid new : Option (List ℕ)) (a b c : ℕ) (began at end : Panel)
-    → Appends old mid table → a ≤ b → NoneFell began at → AnswersAll front tell asked result mid new b c at end → AnswersAll (table ++ front) tell asked result old new a c began end
-behind_shown table front tell asked (Ok missed) old mid new a b c began at end wrote later fell told = (
+pub behind_shown : (table front : List ℕ) (all : List Seen) (tell : List Seen → Option Place) (asked : List Asked) (result : Result Bool Stop) (old mid new : Option (List ℕ)) (a b c : ℕ) (began at end : Panel)
+    → Appends old mid table → a ≤ b → NoneFell began at → AnswersAll all front tell asked result mid new b c at end → AnswersAll all (table ++ front) tell asked result old new a c began end
+behind_shown table front all tell asked (Ok missed) old mid new a b c began at end wrote later fell told = (
   told.0,
   told.1,
   told.2,
   subst (Appends old new) (sym (append_assoc table front told.1)) (appends_then old mid new table (front ++ told.1) wrote told.3),
 )
-behind_shown table front tell asked (Err stop) old mid new a b c began at end wrote later fell told = (
+behind_shown table front all tell asked (Err stop) old mid new a b c began at end wrote later fell told = (
   unanswered_counted stop a b c began end later (unanswered_later stop b c began at end fell told.0),
   told.1,
   told.2,
@@ -149,15 +158,15 @@ behind_shown table front tell asked (Err stop) old mid new a b c began at end wr
 )
 
 -- and behind nothing else
-pub behind_first : (table : List ℕ) (tell : List Seen → Option Place) (asked : List Asked) (result : Result Bool Stop) (old mid new : Option (List ℕ)) (a b c : ℕ) (began at end : Panel)
-    → Appends old mid table → a ≤ b → NoneFell began at → AnswersAll [] tell asked result mid new b c at end → AnswersAll table tell asked result old new a c began end
-behind_first table tell asked result old mid new a b c began at end wrote later fell told =
-    subst (λ front. AnswersAll front tell asked result old new a c began end) (append-nil table) (behind_shown table [] tell asked result old mid new a b c began at end wrote later fell told)
+pub behind_first : (table : List ℕ) (all : List Seen) (tell : List Seen → Option Place) (asked : List Asked) (result : Result Bool Stop) (old mid new : Option (List ℕ)) (a b c : ℕ) (began at end : Panel)
+    → Appends old mid table → a ≤ b → NoneFell began at → AnswersAll all [] tell asked result mid new b c at end → AnswersAll all table tell asked result old new a c began end
+behind_first table all tell asked result old mid new a b c began at end wrote later fell told =
+    subst (λ front. AnswersAll all front tell asked result old new a c began end) (append-nil table) (behind_shown table [] all tell asked result old mid new a b c began at end wrote later fell told)
 
 -- and none, where not all of what comes first was written
-pub no_shown : (table rest : List ℕ) (tell : List Seen → Option Place) (asked : List Asked) (stop : Stop) (old new : Option (List ℕ)) (a c : ℕ) (began end : Panel)
-    → IsUnanswered stop a c began end × WritesFront table old new → AnswersAll (table ++ rest) tell asked (Err stop) old new a c began end
-no_shown table rest tell asked stop old new a c began end told = (
+pub no_shown : (table rest : List ℕ) (all : List Seen) (tell : List Seen → Option Place) (asked : List Asked) (stop : Stop) (old new : Option (List ℕ)) (a c : ℕ) (began end : Panel)
+    → IsUnanswered stop a c began end × WritesFront table old new → AnswersAll all (table ++ rest) tell asked (Err stop) old new a c began end
+no_shown table rest all tell asked stop old new a c began end told = (
   told.0,
   [],
   record { first = []; later = asked; joined = refl; answered = refl },
@@ -206,7 +215,7 @@ module _ (name : List ℕ) (lines : List LineState) (old new : World) (there : I
 
   module _ (text : List ℕ) (e : Exploration) (taken : IsTaken (opened lines).geometry text e old new) (theorems : AreTheorems (begun (opened lines) e) (map asks_for e.program)) (started : Panel) (fell : NoneFell old.device.panel started)
       (refused : Bool) (are : refused ≡ not (length (refused_text (opened lines) e) == 0)) where
-    outcome_taken : (result : Result Bool Stop) → AnswersAll (asked_first (opened lines) e) (found (opened lines) e) e.questions result old.written new.written old.writes new.writes started new.device.panel
+    outcome_taken : (result : Result Bool Stop) → AnswersAll (looked_at (opened lines) e) (asked_first (opened lines) e) (found (opened lines) e) e.questions result old.written new.written old.writes new.writes started new.device.panel
         → Outcome name (ended refused result) old new
     outcome_taken (Ok missed) told = record {
       lines = lines;
@@ -238,8 +247,8 @@ module _ (name : List ℕ) (lines : List LineState) (old new : World) (there : I
       → ReadsScript (script_of (opened lines).geometry text) (Ok x) → AreCommands x.first.items → AreCommands x.program.items
       → ((e : Exploration) → script_of (opened lines).geometry text ≡ Taken e → IsProgram (map asks_for e.first) → IsProgram (map asks_for e.program) → AreTheorems (begun (opened lines) e) (map asks_for e.program))
       → refused ≡ not (length (read_refused (opened lines) x) == 0)
-      → ((asked : List Asked) → AskOf asked x.questions.items
-      → AnswersAll (read_refused (opened lines) x ++ read_shown (opened lines) x) (read_found (opened lines) x) asked result old.written new.written old.writes new.writes started new.device.panel)
+      → ((asked : List Asked) → AskOf asked x.questions.items → AllAskOf (opened lines).geometry x.reads.items asked
+      → AnswersAll (looked (opened lines).geometry x.reads.items) (read_refused (opened lines) x ++ read_shown (opened lines) x) (read_found (opened lines) x) asked result old.written new.written old.writes new.writes started new.device.panel)
       → Outcome name (ended refused result) old new
   outcome_read text x result refused started fell read at_end short is first program theorems are tells = by_script (script_of (opened lines).geometry text) refl is
     where
@@ -248,9 +257,12 @@ module _ (name : List ℕ) (lines : List LineState) (old new : World) (there : I
           outcome_taken text e (record { read = read; ended = at_end; short = short; is = told })
           (theorems e told (subst IsProgram (first_is (opened lines) x e holds) first.program) (subst IsProgram (program_is (opened lines) x e holds) program.program))
           started fell refused (are ∙ ap (λ t. not (length t == 0)) (same_refused (opened lines) x e holds)) result
-          (subst (λ front. AnswersAll front (found (opened lines) e) e.questions result old.written new.written old.writes new.writes started new.device.panel) (same_first (opened lines) x e holds)
-          (subst (λ (tell : List Seen → Option Place). AnswersAll (read_refused (opened lines) x ++ read_shown (opened lines) x) tell e.questions result old.written new.written old.writes new.writes started new.device.panel)
-          (same_found (opened lines) x e holds) (tells e.questions holds.questions)))
+          (subst (λ all. AnswersAll all (asked_first (opened lines) e) (found (opened lines) e) e.questions result old.written new.written old.writes new.writes started new.device.panel) (same_looked (opened lines) x e holds)
+          (subst (λ front. AnswersAll (looked (opened lines).geometry x.reads.items) front (found (opened lines) e) e.questions result old.written new.written old.writes new.writes started new.device.panel) (same_first (opened lines) x e holds)
+          (subst (λ (tell : List Seen → Option Place). AnswersAll (looked (opened lines).geometry x.reads.items) (read_refused (opened lines) x ++ read_shown (opened lines) x) tell e.questions result old.written new.written old.writes new.writes started new.device.panel)
+          (same_found (opened lines) x e holds)
+          (tells e.questions holds.questions
+          (subst (λ rs. AllAskOf (opened lines).geometry rs e.questions) (sym (reads_same (opened lines) x e holds)) (all_ask (opened lines).geometry e.reads e.questions (all_seen (opened lines).geometry text e told)))))))
       by_script (StopsAt n why) told holds = absurd holds
 
 -- words of which there is one name it

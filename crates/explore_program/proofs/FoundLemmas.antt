@@ -59,10 +59,10 @@ found_first test (x ∷ xs) stop is more shown = by_test (test x.state) is (λ a
     by_test true at later = let same : stop ≡ x = cc at in ap (λ b. is_some (if b then Some x else first_stop more xs)) (subst (λ s. more s.state ≡ true) same shown)
     by_test false at later = by_more (more x.state) (later at)
 
-kept_found : (h : Machine) (program : List Input) (look : List Seen) (stop : Option Stop) (found : Found) → found_stop h program look ≡ stop → IsFound look stop (Some found)
+kept_found : (h : Machine) (program : List Input) (all look : List Seen) (stop : Option Stop) (found : Found) → found_stop h program look ≡ stop → IsFound all look stop (Some found)
     → may_find h program (look ++ told found.kept) ≡ true
-kept_found h program look None found at is = absurd is
-kept_found h program look (Some stop) found at is =
+kept_found h program all look None found at is = absurd is
+kept_found h program all look (Some stop) found at is =
     sym (found_may h program (look ++ told found.kept)) ∙ found_first (may_show look) (cut_places 1 (armed h) program) stop at (may_show (look ++ told found.kept)) is.1.shown
 
 -- so each answer is a theorem about the machine's runs
@@ -70,7 +70,7 @@ pub are_theorems : (h : Machine) (program : List Input) → ((look : List Seen) 
     → TellsRuns h program → ListsRuns h program → AreTheorems h program
 are_theorems h program tells table list = record {
   never = λ look none finds. true≢false (sym ((tells look).1 finds) ∙ sym (found_may h program look) ∙ ap is_some none);
-  may = λ look found is. (tells (look ++ told found.kept)).0 (kept_found h program look (found_stop h program look) found refl is);
+  may = λ all look found is. (tells (look ++ told found.kept)).0 (kept_found h program all look (found_stop h program look) found refl is);
   table = table;
   list = list;
 }

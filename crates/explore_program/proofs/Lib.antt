@@ -6,5 +6,6 @@ mod ListLemmas
 mod BeginLemmas
 mod CauseLemmas
 mod AnswerLemmas
+mod AskingLemmas
 mod CallLemmas
 mod UnfailingLemmas

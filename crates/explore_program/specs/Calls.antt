@@ -25,6 +25,7 @@ use Rattle.exploration.specs.Exploration.Script.{StopsAt, Taken}
 use Rattle.exploration.specs.Reads.{read_of}
 use Rattle.outcome_lists.specs.CutPlaces.Places.{Stop, found_stop}
 use Rattle.outcome_lists.specs.Explorer.Finding.{IsFound}
+use Rattle.outcome_lists.specs.Explorer.Tabulating.{LooksWithin, looked}
 use Rattle.outcome_lists.specs.Explorer.declared.found.Found.{Found}
 use Rattle.outcome_lists.specs.Witnesses.Telling.{told}
 use Rattle.program_base.specs.Opening.{CountsOpening, DeviceFailed, FailsToOpen, IsHeld, opened, snapshot}
@@ -70,22 +71,32 @@ asked_first h e = refused_text h e ++ shown e.table e.list (begun h e) (map asks
 abbrev pub found : Machine → Exploration → List Seen → Option Stop
 found h e look = found_stop (begun h e) (map asks_for e.program) look
 
+-- what the look's reads look at
+abbrev pub looked_at : Machine → Exploration → List Seen
+looked_at h e = looked h.geometry (reads_of e.reads)
+
 -- 1 where a command is refused, or done, otherwise than the script says, or a question is answered otherwise than it is to be, and else 0
 abbrev pub ended_by : Machine → Exploration → ℕ
 ended_by h e = if not (length (refused_text h e) == 0) || is_any_missed (found h e) e.questions then 1 else 0
 
--- All these questions were answered with this text, a line each: where that tells that the look may be found, with what may be kept there.
-abbrev pub AreAnswered : (List Seen → Option Stop) → List Asked → List ℕ → Type 0
-AreAnswered tell [] text = text ≡ []
-AreAnswered tell (asked ∷ others) text =
-    (found : Option Found) × (rest : List ℕ) × IsFound asked.look (tell asked.look) found × (text ≡ answer_line asked.look found ++ rest) × AreAnswered tell others rest
+-- All these questions were answered with this text, a line each: where that tells that the look may be found, with what may be kept there
+-- of all that is looked at.
+abbrev pub AreAnswered : List Seen → (List Seen → Option Stop) → List Asked → List ℕ → Type 0
+AreAnswered all tell [] text = text ≡ []
+AreAnswered all tell (asked ∷ others) text =
+    (found : Option Found) × (rest : List ℕ) × IsFound all asked.look (tell asked.look) found × (text ≡ answer_line all found ++ rest) × AreAnswered all tell others rest
+
+-- they ask of these reads alone
+abbrev pub AllAskOf : Geometry → List Read → List Asked → Type 0
+AllAskOf geo reads [] = Unit {0}
+AllAskOf geo reads (asked ∷ others) = LooksWithin (looked geo reads) asked.look × AllAskOf geo reads others
 
 -- the first ones of them were
-pub record FirstAnswered (tell : List Seen → Option Stop) (asked : List Asked) (text : List ℕ) : Type 0 where
+pub record FirstAnswered (all : List Seen) (tell : List Seen → Option Stop) (asked : List Asked) (text : List ℕ) : Type 0 where
   pub first : List Asked
   pub later : List Asked
   pub joined : first ++ later ≡ asked
-  pub answered : AreAnswered tell first text
+  pub answered : AreAnswered all tell first text
 
 -- lines of an image, with which nothing is wrong
 pub record AreMountable (lines : List LineState) : Type 0 where
@@ -137,16 +148,16 @@ TellsShown text result old new count_old count_new device_old device_new = Match
 
 -- Behind a text all questions were answered, each as this tells of its look; or all of that was written up to some place, with answers of
 -- the first questions, and then came that.
-abbrev pub AnswersAll : List ℕ → (List Seen → Option Stop) → List Asked → Result Bool Stopped → Option (List ℕ) → Option (List ℕ) → ℕ → ℕ → Panel → Panel → Type 0
-AnswersAll front tell asked result old new count_old count_new device_old device_new = MatchResult result
-    (λ missed. (missed ≡ is_any_missed tell asked) × (text : List ℕ) × AreAnswered tell asked text × Appends old new (front ++ text))
-    (λ stop. IsUnanswered stop count_old count_new device_old device_new × (text : List ℕ) × FirstAnswered tell asked text × WritesFront (front ++ text) old new)
+abbrev pub AnswersAll : List Seen → List ℕ → (List Seen → Option Stop) → List Asked → Result Bool Stopped → Option (List ℕ) → Option (List ℕ) → ℕ → ℕ → Panel → Panel → Type 0
+AnswersAll all front tell asked result old new count_old count_new device_old device_new = MatchResult result
+    (λ missed. (missed ≡ is_any_missed tell asked) × (text : List ℕ) × AreAnswered all tell asked text × Appends old new (front ++ text))
+    (λ stop. IsUnanswered stop count_old count_new device_old device_new × (text : List ℕ) × FirstAnswered all tell asked text × WritesFront (front ++ text) old new)
 
 -- Each answer is a theorem: where it is never, no run of the machine from that state finds what was asked, and else some run does, which
 -- keeps then what is told. A table lists at some place what runs find by a read of it alone, and a list what they find together.
 pub record AreTheorems (h : Machine) (program : List Input) : Type 0 where
   pub never : (look : List Seen) → found_stop h program look ≡ None → Finds h program look → ⊥
-  pub may : (look : List Seen) (found : Found) → IsFound look (found_stop h program look) (Some found) → Finds h program (look ++ told found.kept)
+  pub may : (all look : List Seen) (found : Found) → IsFound all look (found_stop h program look) (Some found) → Finds h program (look ++ told found.kept)
   pub table : TellsRuns h program
   pub list : ListsRuns h program
 
@@ -172,7 +183,7 @@ pub record Answers (name : List ℕ) (ended : ℕ) (old new : World) : Type 0 wh
   pub taken : IsTaken (opened lines).geometry script exploration old new
   pub status : ended ≡ ended_by (opened lines) exploration
   pub text : List ℕ
-  pub answered : AreAnswered (found (opened lines) exploration) exploration.questions text
+  pub answered : AreAnswered (looked_at (opened lines) exploration) (found (opened lines) exploration) exploration.questions text
   pub wrote : Appends old.written new.written (asked_first (opened lines) exploration ++ text)
   pub theorems : AreTheorems (begun (opened lines) exploration) (map asks_for exploration.program)
   pub images : LeavesImages old new
@@ -202,7 +213,7 @@ pub record Halts (name : List ℕ) (stop : Stopped) (old new : World) : Type 0 w
   pub cause : IsCaused (opened lines).geometry stop script old new
   pub wrote : (new.written ≡ old.written)
       ⊎ ((e : Exploration) × IsTaken (opened lines).geometry script e old new × (text : List ℕ)
-      × FirstAnswered (found (opened lines) e) e.questions text × WritesFront (asked_first (opened lines) e ++ text) old.written new.written)
+      × FirstAnswered (looked_at (opened lines) e) (found (opened lines) e) e.questions text × WritesFront (asked_first (opened lines) e ++ text) old.written new.written)
   pub images : LeavesImages old new
 
 -- the image was not opened, or not all was answered

@@ -1,8 +1,7 @@
 // The line that answers a question, and whether the answer is the one that is wanted.
-ghost use Rattle.std.specs.Prelude.{◌≡◌, IfOk, List};
-ghost use Rattle.outcome_lists.specs.OutcomeTest.Seen.{Seen};
-ghost use Rattle.outcome_lists.specs.AskedReads.Asking.{IsLook};
-ghost use Rattle.explore_program.specs.Telling.{answer_line, is_missed};
+ghost use Rattle.std.specs.Prelude.{◌≡◌, IfOk};
+ghost use Rattle.outcome_lists.specs.AskedReads.Asking.{files_asked, volume_asked};
+ghost use Rattle.explore_program.specs.Telling.{answer_text, is_missed};
 
 use exploration::Wanted;
 use nvm_base::Bytes;
@@ -13,13 +12,13 @@ use outcome_lists::witness::kept_text;
 use program_base::plain_line;
 use std::alloc::{AllocError, Global};
 
-/// Whether what was asked is never found, or where a cut leaves it first, and what it keeps then.
+/// Whether what was asked is never found, or where a cut leaves it first, and what it keeps then of all that is looked at.
 pub fn answer_line(
     alloc: Global,
-    question: &Question,
+    looked: &Question,
     found: &Option<Found>,
 ) -> Result<Bytes, AllocError>
-    ensures { (look : List Seen) → IsLook look question.now → IfOk result (λ line. line.items ≡ answer_line look found.now) }
+    ensures { IfOk result (λ line. line.items ≡ answer_text (volume_asked looked.now) (files_asked looked.now) found.now) }
 {
     let Some(found) = found else {
         return plain_line(alloc, b"never");
@@ -27,7 +26,7 @@ pub fn answer_line(
     let mut line = Bytes::new(alloc);
     line.extend(b"may ")?;
     print_place(found.place, &mut line)?;
-    let kept = kept_text(alloc, question, &found.kept)?;
+    let kept = kept_text(alloc, looked, &found.kept)?;
     line.extend(kept.as_slice())?;
     line.push(b'\n')?;
     Ok(line)

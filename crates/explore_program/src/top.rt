@@ -112,6 +112,7 @@ fn answer_script<D: LineDevice, F: Images, T: Source, K: Sink>(
     answers_are_theorems();
     let refused = report(alloc, &image, &exploration, device, answers)?;
     show(alloc, &image, &exploration, device, answers)?;
-    let missed = answer_all(alloc, &image, &exploration, device, answers)?;
+    let geometry = host.geometry();
+    let missed = answer_all(alloc, &image, geometry, &exploration, device, answers)?;
     Ok(refused || missed)
 }

@@ -1,7 +1,8 @@
 -- What is kept of lines of files is marked as their rows in a table are.
-use Rattle.std.proofs.Common.{◌≡◌, ◌⊎◌, inl, inr, ℕ, ◌+◌, ◌*◌, ◌/◌, ◌%◌, ◌<◌, ◌||◌, nat_lt, Bool, true, false, cond, Option, Some, None, List, [], ◌∷◌, ◌++◌, flat_map, map, refl, sym, ap, subst, ◌∙◌, arith}
+use Rattle.std.proofs.Common.{◌≡◌, ◌⊎◌, inl, inr, ℕ, ◌+◌, ◌*◌, ◌/◌, ◌%◌, ◌<◌, ◌||◌, nat_lt, Bool, true, false, cond, Option, Some, None, List, [], ◌∷◌, ◌++◌, flat_map, map, refl, sym, ap, ap₂, subst, ◌∙◌, arith}
 use Rattle.std.specs.List.{list_all, list_any}
 use Rattle.std.specs.Option.{option_and_then}
+use Rattle.std.proofs.lemmas.Bool.{and_parts}
 use Rattle.std.proofs.lemmas.List.{map-append}
 use Rattle.std.proofs.lemmas.List.Folds.{list_any-append}
 use Rattle.nvm_model.specs.Cell.{Cell}
@@ -9,9 +10,7 @@ use Rattle.nvm_model.specs.Listing.{file_of}
 use Rattle.script_text.specs.Action.{Action}
 use Rattle.cut_places.specs.MachineModel.Machine.{Machine}
 use Rattle.cut_places.specs.Outcomes.Files.{FileRead, reads_of}
-use Rattle.cut_places.specs.Outcomes.Pages.{PageRead, lines_read}
 use Rattle.cut_places.specs.AskedReads.Fitting.{cell_fits}
-use Rattle.cut_places.specs.FileFitting.{now_fits, reads_pass}
 use Rattle.cut_places.specs.FileLines.{line_held}
 use Rattle.cut_places.specs.FilesState.{FileState, FilesState, name_seen}
 use Rattle.cut_places.specs.SeesFiles.{are_held, is_held}
@@ -29,15 +28,15 @@ use Rattle.value_tables.specs.Values.{cells_of}
 use Rattle.value_tables.proofs.FileValueLemmas.{SideHasWords}
 use Rattle.witnesses.specs.declared.file_kept.FileLineKept.{FileLineKept}
 use Rattle.witnesses.specs.declared.line_kept.LineLeft.{LineLeft}
-use Rattle.witnesses.specs.Files.{files_made, files_way, left_at, left_there, line_kept_of, line_there, places_read, read_kept}
+use Rattle.witnesses.specs.Files.{files_made, files_way, left_there, line_kept_in, line_kept_of, line_there, place_of, places_of, read_kept}
 use Rattle.witnesses.specs.Leaving.{made_by, mixing}
 use Rattle.witnesses.specs.Lines.{could_differ, left_of}
-use Rattle.witnesses.proofs.FilesToldLemmas.{line_found, line_left_there}
-use Rattle.witnesses.proofs.ListLemmas.{IsAmong, all_of, among_first, among_last}
+use Rattle.witnesses.proofs.FilesReadLemmas.{line_found}
+use Rattle.witnesses.proofs.ListLemmas.{IsAmong, among_first, among_last}
 use Rattle.witnesses.proofs.SidesLemmas.{left_there_is}
 use Rattle.explorer.specs.Choosing.{file_line_choices, has_choice, side_count}
 use Rattle.explorer.proofs.ChoiceLemmas.{kept_choice, side_differs}
-use Rattle.explorer.proofs.MarkLemmas.{list_same, maps_joined, maps_same}
+use Rattle.explorer.proofs.MarkLemmas.{list_same}
 
 -- the new files, where a cut may leave some of them
 abbrev pub new_by : Option Way → FilesState → Option FilesState
@@ -55,7 +54,7 @@ cells_append (NoFile ∷ a) b = cells_append a b
 cells_append (PastEnd ∷ a) b = cells_append a b
 cells_append (OfLine cell ∷ a) b = ap (λ cells. cell ∷ cells) (cells_append a b)
 
-have_cells : (sides : List FileSide) → EachUnit SideHasWords sides → EachUnit HasWords (cells_of sides)
+pub have_cells : (sides : List FileSide) → EachUnit SideHasWords sides → EachUnit HasWords (cells_of sides)
 have_cells [] have = tt
 have_cells (NoFile ∷ sides) have = have_cells sides have.1
 have_cells (PastEnd ∷ sides) have = have_cells sides have.1
@@ -128,7 +127,7 @@ module _ (n p : ℕ) (line : p / 8 ≡ n) (page : p / 512 ≡ n / 64) where
         subst (IsAmong c) (sym (cells_append (side_at now name p) (new_side (new_by way (made_by files_once_done inside now)) name p)))
         (among_first c (cells_of (side_at now name p)) (cells_of (new_side (new_by way (made_by files_once_done inside now)) name p)) (side_among (file_of name_seen name now.files) c old))
 
-    both_among : (c : Cell) (way : Option Way) → (line_there n (file_of name_seen name now.files) ≡ Some c) ⊎ (line_there n (file_of name_seen name (made_at way).files) ≡ Some c)
+    pub both_among : (c : Cell) (way : Option Way) → (line_there n (file_of name_seen name now.files) ≡ Some c) ⊎ (line_there n (file_of name_seen name (made_at way).files) ≡ Some c)
         → IsAmong c (cells_of (side_at now name p ++ new_side (new_by way (made_by files_once_done inside now)) name p))
     both_among c way (inl old) = old_among c way old
     both_among c None (inr new) = old_among c None new
@@ -138,8 +137,8 @@ module _ (n p : ℕ) (line : p / 8 ≡ n) (page : p / 512 ≡ n / 64) where
 
 module _ (inside : Option Action) (reads : List FileRead) (now : FilesState) (off : Machine)
     (are : AreFilesLeft (file_left off) now (new_by (option_and_then (files_way now) inside) (made_by files_once_done inside now)))
-    (fit : reads_pass (now_fits reads) reads (left_there inside reads now).files ≡ true) (held : are_held now.numbers reads ≡ true)
-    (have_left : AllHaveLines now.numbers (left_there inside reads now).files) (have_now : AllHaveLines now.numbers now.files) (have_made : AllHaveLines now.numbers (files_made inside now).files)
+    (fits : (name : List ℕ) (n : ℕ) (line : Cell) → is_held now.numbers n ≡ true → line_there n (file_of name_seen name (left_there inside reads now).files) ≡ Some line → cell_fits (reads_of name reads) n line ≡ true)
+    (have_now : AllHaveLines now.numbers now.files) (have_made : AllHaveLines now.numbers (files_made inside now).files)
     (words : (name : List ℕ) (p : ℕ) → EachUnit SideHasWords (file_left off name p)) where
   abbrev way : Option Way
   way = option_and_then (files_way now) inside
@@ -147,17 +146,19 @@ module _ (inside : Option Action) (reads : List FileRead) (now : FilesState) (of
   abbrev found_in : FilesState → List ℕ → Option FileState
   found_in s name = file_of name_seen name s.files
 
-  abbrev kept_at : FileRead → ℕ → FileLineKept
-  kept_at r n = line_kept_of reads r.name n (found_in now r.name) (found_in (files_made inside now) r.name) (found_in (left_there inside reads now) r.name)
+  abbrev kept_of : FileRead → ℕ → Cell → FileLineKept
+  kept_of r n line = line_kept_of reads r.name n (found_in now r.name) (found_in (files_made inside now) r.name) line
 
-  line_free : (r : FileRead) → IsAmong r reads → (n : ℕ) → IsAmong n (lines_of_read r.pages) → (kept_at r n).free ≡ file_line_choices off (r.name, n)
-  line_free r is n among =
+  abbrev kept_in : FileRead → ℕ → Option Cell → List FileLineKept
+  kept_in r n o = line_kept_in reads r.name n (found_in now r.name) (found_in (files_made inside now) r.name) o
+
+  line_free : (r : FileRead) (n : ℕ) → is_held now.numbers n ≡ true → (line : Cell) → line_there n (found_in (left_there inside reads now) r.name) ≡ Some line
+      → (kept_of r n line).free ≡ file_line_choices off (r.name, n)
+  line_free r n own cell there =
       let name = r.name in
       let rs = reads_of name reads in
-      let there = line_left_there reads now.numbers (left_there inside reads now).files fit held have_left r is n among in
-      let own : is_held now.numbers n ≡ true = all_of (is_held now.numbers) n (lines_of_read r.pages) (all_of (λ (q : FileRead). list_all (is_held now.numbers) (lines_of_read q.pages)) r reads held is) among in
-      let kept = left_of rs n there.0 in
-      list_same (λ w. could_differ (line_there n (found_in now name)) w (kept_at r n).left || could_differ (line_there n (found_in (files_made inside now) name)) w (kept_at r n).left)
+      let kept = left_of rs n cell in
+      list_same (λ w. could_differ (line_there n (found_in now name)) w kept || could_differ (line_there n (found_in (files_made inside now) name)) w kept)
       (λ w. has_choice off (FileWord name (8 * n + w))) 0 8
       (λ w from to.
       let word : w < 8 = omega (arith, to) in
@@ -165,27 +166,40 @@ module _ (inside : Option Action) (reads : List FileRead) (now : FilesState) (of
       let page : (8 * n + w) / 512 ≡ n / 64 = omega (arith, word) in
       let place : (8 * n + w) % 8 ≡ w = omega (arith, word) in
       let sides = are name (8 * n + w) (ap (is_held now.numbers) line ∙ own) in
-      ap (λ k. could_differ (line_there n (found_in now name)) w k || could_differ (line_there n (found_in (files_made inside now) name)) w k) (ap (left_at rs n) there.1)
-      ∙ both_differ n (8 * n + w) line page inside now name w kept way (has_it now.numbers now.files n name have_now own) (has_it now.numbers (files_made inside now).files n name have_made own)
+      both_differ n (8 * n + w) line page inside now name w kept way (has_it now.numbers now.files n name have_now own) (has_it now.numbers (files_made inside now).files n name have_made own)
       ∙ ap (list_any (side_differs w kept)) (sym sides)
-      ∙ kept_choice rs n w word (file_left off name (8 * n + w)) there.0
-      (subst (λ ss. IsAmong there.0 (cells_of ss)) (sym sides) (both_among n (8 * n + w) line page inside now name there.0 way (left_there_is reads now name n there.0 inside there.1))) there.2
+      ∙ kept_choice rs n w word (file_left off name (8 * n + w)) cell
+      (subst (λ ss. IsAmong cell (cells_of ss)) (sym sides) (both_among n (8 * n + w) line page inside now name cell way (left_there_is reads now name n cell inside there))) (fits name n cell own there)
       (have_cells (file_left off name (8 * n + w)) (words name (8 * n + w)))
       ∙ ap (λ k. nat_lt 1 (side_count k (file_left off name (8 * n + w)))) (sym place))
 
-  -- the words of each line are marked so
-  marked : (some : List FileRead) → ((r : FileRead) → IsAmong r some → IsAmong r reads)
-      → map (λ (k : FileLineKept). k.free) (flat_map (read_kept reads now (files_made inside now) (left_there inside reads now)) some) ≡ map (file_line_choices off) (places_read some)
-  marked [] each = refl
-  marked (r ∷ some) each =
-      let ns = lines_of_read r.pages in
-      map-append (λ (k : FileLineKept). k.free) (map (kept_at r) ns) (flat_map (read_kept reads now (files_made inside now) (left_there inside reads now)) some)
-      ∙ ap (λ marks. marks ++ map (λ (k : FileLineKept). k.free) (flat_map (read_kept reads now (files_made inside now) (left_there inside reads now)) some))
-      (maps_joined (λ (k : FileLineKept). k.free) (kept_at r) ns
-      ∙ maps_same (λ n. (kept_at r n).free) (λ n. file_line_choices off (r.name, n)) ns (line_free r (each r (inl refl)))
-      ∙ sym (maps_joined (file_line_choices off) (λ n. (r.name, n)) ns))
-      ∙ ap (λ marks. map (file_line_choices off) (map (λ n. (r.name, n)) ns) ++ marks) (marked some (λ q is. each q (inr is)))
-      ∙ sym (map-append (file_line_choices off) (map (λ n. (r.name, n)) ns) (places_read some))
+  -- the words of each line that is there are marked so
+  one_marked : (r : FileRead) (n : ℕ) → is_held now.numbers n ≡ true → (o : Option Cell) → line_there n (found_in (left_there inside reads now) r.name) ≡ o
+      → map (λ (k : FileLineKept). k.free) (kept_in r n o) ≡ map (file_line_choices off) (places_of (kept_in r n o))
+  one_marked r n own None there = refl
+  one_marked r n own (Some line) there = ap (λ marks. marks ∷ []) (line_free r n own line there)
 
-  pub files_marked : map (λ (k : FileLineKept). k.free) (flat_map (read_kept reads now (files_made inside now) (left_there inside reads now)) reads) ≡ map (file_line_choices off) (places_read reads)
-  files_marked = marked reads (λ r is. is)
+  both_marked : (xs ys : List FileLineKept) → map (λ (k : FileLineKept). k.free) xs ≡ map (file_line_choices off) (places_of xs) → map (λ (k : FileLineKept). k.free) ys ≡ map (file_line_choices off) (places_of ys)
+      → map (λ (k : FileLineKept). k.free) (xs ++ ys) ≡ map (file_line_choices off) (places_of (xs ++ ys))
+  both_marked xs ys first last =
+      map-append (λ (k : FileLineKept). k.free) xs ys ∙ ap₂ (λ a b. a ++ b) first last
+      ∙ sym (map-append (file_line_choices off) (places_of xs) (places_of ys)) ∙ sym (ap (map (file_line_choices off)) (map-append place_of xs ys))
+
+  abbrev line_kept : FileRead → ℕ → List FileLineKept
+  line_kept r n = kept_in r n (line_there n (found_in (left_there inside reads now) r.name))
+
+  lines_marked : (r : FileRead) (ns : List ℕ) → list_all (is_held now.numbers) ns ≡ true
+      → map (λ (k : FileLineKept). k.free) (flat_map (line_kept r) ns) ≡ map (file_line_choices off) (places_of (flat_map (line_kept r) ns))
+  lines_marked r [] own = refl
+  lines_marked r (n ∷ ns) own =
+      let parts = and_parts (is_held now.numbers n) (list_all (is_held now.numbers) ns) own in
+      both_marked (line_kept r n) (flat_map (line_kept r) ns) (one_marked r n parts.0 (line_there n (found_in (left_there inside reads now) r.name)) refl) (lines_marked r ns parts.1)
+
+  pub files_marked : (looked : List FileRead) → are_held now.numbers looked ≡ true
+      → map (λ (k : FileLineKept). k.free) (flat_map (read_kept reads now (files_made inside now) (left_there inside reads now)) looked)
+      ≡ map (file_line_choices off) (places_of (flat_map (read_kept reads now (files_made inside now) (left_there inside reads now)) looked))
+  files_marked [] held = refl
+  files_marked (r ∷ looked) held =
+      let parts = and_parts (list_all (is_held now.numbers) (lines_of_read r.pages)) (are_held now.numbers looked) held in
+      both_marked (flat_map (line_kept r) (lines_of_read r.pages)) (flat_map (read_kept reads now (files_made inside now) (left_there inside reads now)) looked)
+      (lines_marked r (lines_of_read r.pages) parts.0) (files_marked looked parts.1)

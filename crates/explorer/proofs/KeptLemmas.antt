@@ -1,8 +1,10 @@
 -- What is kept at the place that is found is of all that the look's reads touch, and marked as its rows in a table are.
-use Rattle.std.proofs.Common.{◌≡◌, ℕ, ◌-◌, ◌/◌, ◌*◌, ◌<◌, Bool, true, false, cond, Option, Some, None, List, [], ◌∷◌, ◌++◌, length, map, option_map, slice_get, is_some, refl, sym, ap, subst, ◌∙◌, arith}
+use Rattle.std.proofs.Common.{◌≡◌, inl, inr, ℕ, ◌-◌, ◌/◌, ◌*◌, ◌<◌, Bool, true, false, cond, Option, Some, None, List, [], ◌∷◌, ◌++◌, filter, length, map, option_map, slice_get, is_some, refl, sym, ap, subst, ◌∙◌, arith}
 use Rattle.std.specs.Option.{option_and_then}
 use Rattle.word_tables.specs.declared.geometry.Geometry.{Geometry}
 use Rattle.nvm_model.specs.Blocks.{nth}
+use Rattle.nvm_model.specs.Cell.{Cell}
+use Rattle.nvm_model.specs.Cell.Cell.{Bad, Kept}
 use Rattle.nvm_model.specs.Page.{Page}
 use Rattle.block_sights.specs.Sights.{sight}
 use Rattle.script_text.specs.Action.{Action, action_of}
@@ -16,7 +18,7 @@ use Rattle.cut_places.specs.Outcomes.Pages.{PageRead, all_lines_read}
 use Rattle.cut_places.specs.Outcomes.Seen.{Seen, block_reads, file_reads, may_show, volume_reads}
 use Rattle.cut_places.specs.Outcomes.Finds.{IsReady}
 use Rattle.cut_places.specs.Outcomes.Stops.{IsProgram, led_to}
-use Rattle.cut_places.specs.AskedReads.Asking.{IsLook, blocks_of, files_asked, may_be_replies, volume_asked}
+use Rattle.cut_places.specs.AskedReads.Asking.{IsLook, blocks_of, files_asked, volume_asked}
 use Rattle.cut_places.specs.AskedReads.Program.{inputs_of_lines}
 use Rattle.cut_places.specs.AskedReads.declared.question.Question.{Question}
 use Rattle.cut_places.specs.declared.place.CutPlace.{CutPlace}
@@ -24,17 +26,18 @@ use Rattle.cut_places.specs.declared.place.CutPlace.TheVariants.{Before, Inside}
 use Rattle.cut_places.specs.declared.sight.Sight.{Sight}
 use Rattle.cut_places.specs.FileChanges.{left_by}
 use Rattle.cut_places.specs.FileCommands.{files_change}
-use Rattle.cut_places.specs.FileLeaving.{fit_there}
+use Rattle.cut_places.specs.FileFitting.{now_fits, reads_pass}
 use Rattle.cut_places.specs.FileMixing.{way_left}
 use Rattle.cut_places.specs.FilesState.{FilesState, name_seen}
-use Rattle.cut_places.specs.SeesFiles.{SeesFile, SeesFiles}
-use Rattle.nvm_model.specs.Listing.{file_name}
+use Rattle.cut_places.specs.SeesFiles.{SeesFile, SeesFiles, is_held}
+use Rattle.nvm_model.specs.Listing.{file_name, file_of}
 use Rattle.nvm_model.proofs.AlikeLemmas.{alike-found}
-use Rattle.cut_places.specs.Following.{Follows, IsAt, IsFirst, IsWhole, IsWithin, ShowsAt}
+use Rattle.cut_places.specs.Following.{Follows, IsAt, IsFirst, IsWhole, IsWithin}
 use Rattle.cut_places.specs.Places.{Stop, cut_places, first_stop}
 use Rattle.cut_places.specs.Sights.{files_once_done}
 use Rattle.cut_places.specs.SightsSeen.declared.line_seen.LineSeen.{LineSeen}
 use Rattle.cut_places.specs.SightsSeen.declared.way.Way.{Way}
+use Rattle.cut_places.specs.SightsSeen.Changing.{volume_change}
 use Rattle.cut_places.specs.SightsSeen.Seeing.{seen}
 use Rattle.cut_places.specs.SightsSeen.Ways.{blocks_way, lines_way}
 use Rattle.cut_places.proofs.LeavingLemmas.{left_fits}
@@ -47,27 +50,40 @@ use Rattle.value_tables.specs.Left.{block_left, file_left, line_left}
 use Rattle.value_tables.specs.Listed.{HasWords, IsSound}
 use Rattle.value_tables.specs.Sides.{AreBlocksLeft, AreFilesLeft, AreLeft, where_files_mixed, where_mixed}
 use Rattle.value_tables.proofs.FileSideLemmas.{files_cut, files_rest}
+use Rattle.value_tables.specs.Values.{cells_of}
 use Rattle.value_tables.proofs.FileValueLemmas.{SideHasWords, sides_have}
+use Rattle.cut_places.proofs.ValueLemmas.{changed_has, each_of}
 use Rattle.value_tables.proofs.SoundLemmas.{places_sound}
 use Rattle.value_tables.proofs.SideLemmas.{blocks_cut, blocks_rest, lines_cut, lines_rest}
 use Rattle.witnesses.specs.declared.block_kept.BlockKept.{BlockKept}
 use Rattle.witnesses.specs.declared.file_kept.FileLineKept.{FileLineKept}
-use Rattle.witnesses.specs.declared.kept.Kept.{Kept}
+use Rattle.witnesses.specs.declared.kept.Kept.{Kept as KeptAll}
 use Rattle.witnesses.specs.declared.line_kept.LineKept.{LineKept}
 use Rattle.witnesses.specs.Blocks.{block_kept, block_made, numbers_of_blocks}
-use Rattle.witnesses.specs.Files.{files_kept, files_made, files_way, left_there, places_of, places_read}
+use Rattle.witnesses.specs.declared.size_kept.SizeKept.{SizeKept}
+use Rattle.witnesses.specs.Files.{files_kept, files_made, files_way, left_there, line_there, places_of, places_read}
+use Rattle.cut_places.specs.Enough.{HasEach, IsEnough}
+use Rattle.cut_places.specs.SightsSeen.Units.{AreLines, AreWithin}
+use Rattle.witnesses.specs.Keeping.{Covers, LooksThere}
+use Rattle.witnesses.proofs.HeldPlaceLemmas.{asked_held}
 use Rattle.witnesses.specs.Leaving.{made_by, mixing}
 use Rattle.witnesses.specs.Lines.{line_kept, line_made, numbers_of_lines}
 use Rattle.witnesses.specs.Places.{IsReached, shows_at, state_at}
+use Rattle.witnesses.specs.Sizes.{has_line, names_of_sizes, names_read, sizes_kept}
 use Rattle.witnesses.specs.Telling.{told}
-use Rattle.witnesses.proofs.FilesLemmas.{places_kept}
-use Rattle.witnesses.proofs.KeepLemmas.{lines_fit, numbers_kept, numbers_kept_of_blocks}
+use Rattle.witnesses.proofs.FilesLemmas.{names_kept}
+use Rattle.witnesses.proofs.FilesToldLemmas.{line_left_fits}
+use Rattle.witnesses.proofs.KeepLemmas.{lines_fit, lines_there, numbers_kept, numbers_kept_of_blocks}
 use Rattle.witnesses.proofs.ListLemmas.{IsAmong}
+use Rattle.witnesses.proofs.SidesLemmas.{left_there_is}
+use Rattle.witnesses.proofs.ThereLemmas.{shows_all}
 use Rattle.witnesses.proofs.UnitLemmas.{all_parts, line_of, line_within}
-use Rattle.explorer.specs.Choosing.{file_line_choices, has_choice, line_choices}
+use Rattle.explorer.specs.Choosing.{file_line_choices, has_choice, line_choices, size_choice}
 use Rattle.explorer.specs.Finding.{IsFound, IsKept, action_on, inside_at}
-use Rattle.explorer.proofs.FileMarkLemmas.{files_marked, new_by}
+use Rattle.explorer.specs.Tabulating.{LooksWithin}
+use Rattle.explorer.proofs.FileMarkLemmas.{both_among, files_marked, have_cells, new_by}
 use Rattle.explorer.proofs.MarkLemmas.{blocks_marked, lines_marked}
+use Rattle.explorer.proofs.SizeMarkLemmas.{sizes_marked}
 use Rattle.explorer.proofs.SoundLemmas.{first_is}
 
 -- each file that is held has lines of the numbers that are held
@@ -75,8 +91,47 @@ seen_have : (held : FilesState) (h : Machine) → SeesFiles held h → AllHaveLi
 seen_have held h sees name x found =
     let there = alike-found name_seen file_name (SeesFile held.numbers) name held.files h.files sees.files x found in (seen there.0.pages, there.3.held, there.3.lines)
 
-module _ (h : Machine) (q : Question) (inside : Option Action) (now : Sight) (look : List Seen) (follows : Follows now h.geometry h) (is : IsLook look q) (whole : IsWhole now q) (within : IsWithin now h.geometry)
-    (replies : may_be_replies h.geometry q ≡ true) (shown : shows_at h.geometry inside q now ≡ true) (reached : IsReached h inside) (sound : IsSound (state_at h inside)) where
+unit_has : (cells : List Cell) (line : Cell) → EachUnit HasWords cells → IsAmong line cells → HasWords line
+unit_has [] line each is = absurd is
+unit_has (cell ∷ cells) line each (inl same) = subst HasWords (sym same) each.0
+unit_has (cell ∷ cells) line each (inr later) = unit_has cells line each.1 later
+
+-- and so once a command changed it
+made_has : (geo : Geometry) (way : Option Way) (inside : Option Action) (s : LineSeen) → HasWords s.line → HasWords (line_made geo (mixing way inside) s).line
+made_has geo None inside s has = has
+made_has geo (Some way) None s has = has
+made_has geo (Some way) (Some action) s has = changed_has (volume_change geo action) s.number s.line has
+
+-- a line of a state that is sound
+line_words : (h : Machine) (lines : List LineSeen) (s : LineSeen) → IsSound h → AreLines (seen h.volume) lines → AreWithin h.geometry lines → IsAmong s lines → HasWords s.line
+line_words h lines s sound are within among =
+    subst HasWords (sym (line_of (seen h.volume) lines s are among)) (sound.words s.number (page h.geometry h.volume sound.counted.pages (line_within h.geometry lines s within among)))
+  where
+    page : (geo : Geometry) (pages : List Page) → length pages ≡ geo.vpages → s.number < 64 * geo.vpages → s.number / 64 < length pages
+    page geo pages size lt = subst (λ m. s.number / 64 < m) (sym size) (omega (arith, lt))
+
+-- a question of a look within what is looked at
+covers_of : (q looked : Question) (look all : List Seen) → IsLook look q → IsLook all looked → LooksWithin all look → Covers q looked
+covers_of q looked look all is are under = record {
+  lines = λ n among. subst (λ rs. IsAmong n (all_lines_read rs)) are.volume (under.lines n (subst (λ rs. IsAmong n (all_lines_read rs)) (sym is.volume) among));
+  blocks = λ b among. subst (λ rs. IsAmong b (all_numbers_read rs)) are.blocks (under.blocks b (subst (λ rs. IsAmong b (all_numbers_read rs)) (sym is.blocks) among));
+  files = λ place among. subst (λ rs. IsAmong place (places_read rs)) are.files (under.files place (subst (λ rs. IsAmong place (places_read rs)) (sym is.files) among));
+}
+
+-- What is looked at in a state that is sound is enough for it.
+pub enough_for : (h : Machine) (q looked : Question) (now : Sight) (geo : Geometry) (look all : List Seen) → Follows now geo h → IsSound h → IsLook look q → IsLook all looked → IsWhole now looked
+    → IsWithin now geo → LooksWithin all look → IsEnough now q
+enough_for h q looked now geo look all follows sound is are whole within under =
+    let covers = covers_of q looked look all is are under in record {
+      lines = λ n among. subst (IsAmong n) (sym whole.lines) (covers.lines n among);
+      blocks = λ b among. subst (IsAmong b) (sym whole.blocks) (covers.blocks b among);
+      files = asked_held now.files.numbers (files_asked q) (files_asked looked) covers.files whole.files;
+      words = λ s among. line_words h now.lines.items s sound follows.sees.lines (subst (λ g. AreWithin g now.lines.items) (sym follows.sizes) within.lines) among;
+    }
+
+module _ (h : Machine) (q looked : Question) (inside : Option Action) (now : Sight) (look all : List Seen) (follows : Follows now h.geometry h) (is : IsLook look q) (are : IsLook all looked)
+    (whole : IsWhole now looked) (within : IsWithin now h.geometry) (under : LooksWithin all look) (shows : may_show look (state_at h inside) ≡ true) (reached : IsReached h inside)
+    (sound : IsSound (state_at h inside)) where
   abbrev off : Machine
   off = state_at h inside
 
@@ -108,15 +163,11 @@ module _ (h : Machine) (q : Question) (inside : Option Action) (now : Sight) (lo
           (files_cut h now.files follows.sees.files action can follows.ready.whole (files_once_done action now.files) refl)
 
   have_words : (s : LineSeen) → IsAmong s now.lines.items → HasWords s.line
-  have_words s among =
-      subst HasWords (sym (line_of (seen h.volume) now.lines.items s follows.sees.lines among)) (by_place inside sound)
+  have_words s among = by_place inside sound
     where
-      page : (geo : Geometry) (pages : List Page) → length pages ≡ geo.vpages → s.number < 64 * geo.vpages → s.number / 64 < length pages
-      page geo pages size lt = subst (λ m. s.number / 64 < m) (sym size) (omega (arith, lt))
-
-      by_place : (o : Option Action) → IsSound (state_at h o) → HasWords (seen h.volume s.number)
-      by_place None at = at.words s.number (page h.geometry h.volume at.counted.pages (line_within h.geometry now.lines.items s within.lines among))
-      by_place (Some action) at = at.words s.number (page h.geometry h.volume at.counted.pages (line_within h.geometry now.lines.items s within.lines among))
+      by_place : (o : Option Action) → IsSound (state_at h o) → HasWords s.line
+      by_place None at = line_words h now.lines.items s at follows.sees.lines within.lines among
+      by_place (Some action) at = line_words (while_interrupted h action) now.lines.items s at follows.sees.lines within.lines among
 
   have_made : AllHaveLines now.files.numbers (files_made inside now.files).files
   have_made = by_place inside reached
@@ -131,78 +182,133 @@ module _ (h : Machine) (q : Question) (inside : Option Action) (now : Sight) (lo
       by_place None can = seen_have now.files h follows.sees.files
       by_place (Some action) can = by_way action can (files_way now.files action)
 
-  module _ (kept : Kept) (lines : kept.lines.items ≡ map (line_kept h.geometry inside (volume_asked q) now.lines.items) now.lines.items)
-      (blocks : kept.blocks.items ≡ map (block_kept h.geometry inside (blocks_of q) now.blocks.items) now.blocks.items) (files : kept.files.items ≡ files_kept inside (files_asked q) now.files)
+  have_sides : (name : List ℕ) (p : ℕ) → EachUnit SideHasWords (file_left off name p)
+  have_sides name p = sides_have name p off.mappings off.interrupted off.files sound.file_lines sound.file_values
+
+  abbrev asked : List FileRead
+  asked = files_asked q
+
+  -- a line of a file that is there
+  line_has : (name : List ℕ) (n : ℕ) (line : Cell) → is_held now.files.numbers n ≡ true → line_there n (file_of name_seen name (left_there inside asked now.files).files) ≡ Some line → HasEach line
+  line_has name n line own there =
+      let at : 8 * n / 8 ≡ n = omega arith in
+      let page : 8 * n / 512 ≡ n / 64 = omega arith in
+      let sides = files_left name (8 * n) (ap (is_held now.files.numbers) at ∙ own) in
+      each_of line
+      (unit_has (cells_of (file_left off name (8 * n))) line (have_cells (file_left off name (8 * n)) (have_sides name (8 * n)))
+      (subst (λ ss. IsAmong line (cells_of ss)) (sym sides)
+      (both_among n (8 * n) at page inside now.files name line (option_and_then (files_way now.files) inside) (left_there_is asked now.files name n line inside there))))
+
+  covers : Covers q looked
+  covers = covers_of q looked look all is are under
+
+  pub looks_there : LooksThere h.geometry inside q looked now
+  looks_there = record {
+    whole = whole;
+    within = within;
+    covers = covers;
+    words = λ s among. (each_of s.line (have_words s among), each_of _ (made_has h.geometry (option_and_then lines_way inside) inside s (have_words s among)));
+    file_words = line_has;
+  }
+
+  shown : shows_at h.geometry inside q now ≡ true
+  shown = shows_all h look q looked inside now follows is looks_there reached shows
+
+  left_fit : reads_pass (now_fits asked) asked (left_there inside asked now.files).files ≡ true
+  left_fit = left_fits asked now.files (option_map (files_change now.files.mappings.mappings) inside) (all_parts h.geometry inside q now shown).2
+
+  have_left : AllHaveLines now.files.numbers (left_there inside asked now.files).files
+  have_left = left_have now.files h inside asked follows.sees.files follows.ready.whole (λ action same. subst (IsReached h) same reached)
+
+  module _ (kept : KeptAll) (lines : kept.lines.items ≡ map (line_kept h.geometry inside (volume_asked q) now.lines.items) now.lines.items)
+      (blocks : kept.blocks.items ≡ map (block_kept h.geometry inside (blocks_of q) now.blocks.items) now.blocks.items)
+      (sizes : kept.sizes.items ≡ sizes_kept inside (files_asked q) (files_asked looked) now.files) (files : kept.files.items ≡ files_kept inside (files_asked q) (files_asked looked) now.files)
       (told_so : may_show (look ++ told kept) off ≡ true) where
     abbrev reads : List FileRead
-    reads = files_asked q
+    reads = files_asked looked
 
-    pub is_kept : IsKept look off kept
+    pub is_kept : IsKept all look off kept
     is_kept = record {
       shown = told_so;
-      lines = ap numbers_of_lines lines ∙ numbers_kept h.geometry inside (volume_asked q) now.lines.items now.lines.items ∙ whole.lines ∙ ap all_lines_read (sym is.volume);
-      blocks = ap numbers_of_blocks blocks ∙ numbers_kept_of_blocks h.geometry inside (blocks_of q) now.blocks.items now.blocks.items ∙ whole.blocks ∙ ap all_numbers_read (sym is.blocks);
-      files = ap places_of files ∙ places_kept reads now.files (files_made inside now.files) (left_there inside reads now.files) reads ∙ ap places_read (sym is.files);
+      lines = ap numbers_of_lines lines ∙ numbers_kept h.geometry inside (volume_asked q) now.lines.items now.lines.items ∙ whole.lines ∙ ap all_lines_read (sym are.volume);
+      blocks = ap numbers_of_blocks blocks ∙ numbers_kept_of_blocks h.geometry inside (blocks_of q) now.blocks.items now.blocks.items ∙ whole.blocks ∙ ap all_numbers_read (sym are.blocks);
+      sizes = ap names_of_sizes sizes ∙ names_kept asked now.files (files_made inside now.files) (left_there inside asked now.files) reads ∙ ap names_read (sym are.files);
+      files =
+          lines_there h inside asked reads now.files follows.sees.files follows.ready.whole reached whole.files kept.sizes.items kept.files.items sizes files
+          ∙ ap (λ rs. filter (has_line kept.sizes.items) (places_read rs)) (sym are.files);
       words =
           ap (map (λ (k : LineKept). k.free)) lines
-          ∙ lines_marked h.geometry inside (volume_asked q) now.lines.items off lines_left (lines_fit h look q inside now follows is whole within replies shown reached) have_words
-          ∙ ap (map (line_choices off)) (whole.lines ∙ ap all_lines_read (sym is.volume));
+          ∙ lines_marked h.geometry inside (volume_asked q) now.lines.items off lines_left (lines_fit h look q looked inside now follows is looks_there shows reached) have_words
+          ∙ ap (map (line_choices off)) (whole.lines ∙ ap all_lines_read (sym are.volume));
       sights =
           ap (map (λ (k : BlockKept). k.free)) blocks ∙ blocks_marked h.geometry inside (blocks_of q) now.blocks.items off units_left
-          ∙ ap (map (λ b. has_choice off (Block b))) (whole.blocks ∙ ap all_numbers_read (sym is.blocks));
+          ∙ ap (map (λ b. has_choice off (Block b))) (whole.blocks ∙ ap all_numbers_read (sym are.blocks));
+      lengths =
+          ap (map (λ (k : SizeKept). k.free)) sizes
+          ∙ sizes_marked h inside now.files (left_there inside asked now.files) follows.sees.files follows.ready.settled follows.ready.whole reached reads
+          ∙ ap (λ rs. map (size_choice off) (names_read rs)) (sym are.files);
       file_words =
           ap (map (λ (k : FileLineKept). k.free)) files
-          ∙ files_marked inside reads now.files off files_left
-          (left_fits reads now.files (option_map (files_change now.files.mappings.mappings) inside) (all_parts h.geometry inside q now shown).2) whole.files
-          (left_have now.files h inside reads follows.sees.files follows.ready.whole (λ action same. subst (IsReached h) same reached)) (seen_have now.files h follows.sees.files) have_made
-          (λ name p. sides_have name p off.mappings off.interrupted off.files sound.file_lines sound.file_values)
-          ∙ ap (map (file_line_choices off)) (ap places_read (sym is.files));
+          ∙ files_marked inside asked now.files off files_left
+          (λ name n line own there. line_left_fits asked reads now.files.numbers (left_there inside asked now.files).files left_fit covers.files whole.files have_left line_has name n line own there)
+          (seen_have now.files h follows.sees.files) have_made have_sides reads whole.files
+          ∙ ap (λ ks. map (file_line_choices off) (places_of ks)) (sym files);
     }
 
 -- The same at a place of a program, where the sizes are those of the state.
-module _ (program : List (Option Command)) (q : Question) (now : Sight) (geo : Geometry) (look : List Seen) (is : IsLook look q) (whole : IsWhole now q) (within : IsWithin now geo)
-    (replies : may_be_replies geo q ≡ true) (kept : Kept) where
+module _ (program : List (Option Command)) (q looked : Question) (now : Sight) (geo : Geometry) (look all : List Seen) (is : IsLook look q) (are : IsLook all looked) (whole : IsWhole now looked)
+    (within : IsWithin now geo) (under : LooksWithin all look) (kept : KeptAll) where
   -- what is found in that state, or inside the action
-  module _ (inside : Option Action) (shown : shows_at geo inside q now ≡ true) (lines : kept.lines.items ≡ map (line_kept geo inside (volume_asked q) now.lines.items) now.lines.items)
-      (blocks : kept.blocks.items ≡ map (block_kept geo inside (blocks_of q) now.blocks.items) now.blocks.items) (files : kept.files.items ≡ files_kept inside (files_asked q) now.files)
-      (told_so : (h : Machine) → Follows now geo h → IsReached h inside → may_show (look ++ told kept) (state_at h inside) ≡ true) where
-    in_state : (h : Machine) → Follows now geo h → IsReached h inside → IsSound (state_at h inside) → IsKept look (state_at h inside) kept
-    in_state h follows reached sound =
+  module _ (inside : Option Action) (lines : kept.lines.items ≡ map (line_kept geo inside (volume_asked q) now.lines.items) now.lines.items)
+      (blocks : kept.blocks.items ≡ map (block_kept geo inside (blocks_of q) now.blocks.items) now.blocks.items)
+      (sizes : kept.sizes.items ≡ sizes_kept inside (files_asked q) (files_asked looked) now.files) (files : kept.files.items ≡ files_kept inside (files_asked q) (files_asked looked) now.files)
+      (told_so : (h : Machine) → Follows now geo h → IsReached h inside → LooksThere geo inside q looked now → may_show look (state_at h inside) ≡ true
+      → may_show (look ++ told kept) (state_at h inside) ≡ true) where
+    in_state : (h : Machine) → Follows now geo h → IsReached h inside → may_show look (state_at h inside) ≡ true → IsSound (state_at h inside) → IsKept all look (state_at h inside) kept
+    in_state h follows reached shows sound =
         let at : geo ≡ h.geometry = sym follows.sizes in
-        is_kept h q inside now look (subst (λ g. Follows now g h) at follows) is whole (subst (IsWithin now) at within) (subst (λ g. may_be_replies g q ≡ true) at replies)
-        (subst (λ g. shows_at g inside q now ≡ true) at shown) reached sound kept
+        let here = subst (λ g. Follows now g h) at follows in
+        let there = subst (IsWithin now) at within in
+        is_kept h q looked inside now look all here is are whole there under shows reached sound kept
         (subst (λ g. kept.lines.items ≡ map (line_kept g inside (volume_asked q) now.lines.items) now.lines.items) at lines)
-        (subst (λ g. kept.blocks.items ≡ map (block_kept g inside (blocks_of q) now.blocks.items) now.blocks.items) at blocks) files (told_so h follows reached)
+        (subst (λ g. kept.blocks.items ≡ map (block_kept g inside (blocks_of q) now.blocks.items) now.blocks.items) at blocks) sizes files
+        (told_so h follows reached (subst (λ g. LooksThere g inside q looked now) follows.sizes (looks_there h q looked inside now look all here is are whole there under shows reached sound)) shows)
 
-    pub kept_there : (place : CutPlace) (state : Machine) → inside ≡ inside_at program place → IsAt program now geo place state → IsSound state → IsKept look state kept
-    kept_there (Before n) state at follows sound =
+    pub kept_there : (place : CutPlace) (state : Machine) → inside ≡ inside_at program place → IsAt program now geo place state → may_show look state ≡ true → IsSound state → IsKept all look state kept
+    kept_there (Before n) state at follows shows sound =
         let none : inside ≡ None = at in
-        subst (λ (s : Machine). IsKept look s kept) (ap (state_at state) none)
-        (in_state state follows (subst (IsReached state) (sym none) tt) (subst (λ (s : Machine). IsSound s) (sym (ap (state_at state) none)) sound))
-    kept_there (Inside n) state at cut sound =
+        subst (λ (s : Machine). IsKept all look s kept) (ap (state_at state) none)
+        (in_state state follows (subst (IsReached state) (sym none) tt) (subst (λ (s : Machine). may_show look s ≡ true) (sym (ap (state_at state) none)) shows)
+        (subst (λ (s : Machine). IsSound s) (sym (ap (state_at state) none)) sound))
+    kept_there (Inside n) state at cut shows sound =
         let some : inside ≡ Some (action_of cut.0) = at ∙ ap action_on cut.1 in
         let where_cut : state ≡ state_at cut.2.before inside = cut.2.is ∙ sym (ap (state_at cut.2.before) some) in
-        subst (λ (s : Machine). IsKept look s kept) (sym where_cut)
-        (in_state cut.2.before cut.2.follows (subst (IsReached cut.2.before) (sym some) cut.2.done) (subst (λ (s : Machine). IsSound s) where_cut sound))
+        subst (λ (s : Machine). IsKept all look s kept) (sym where_cut)
+        (in_state cut.2.before cut.2.follows (subst (IsReached cut.2.before) (sym some) cut.2.done) (subst (λ (s : Machine). may_show look s ≡ true) where_cut shows)
+        (subst (λ (s : Machine). IsSound s) where_cut sound))
 
--- what is asked may be shown where a place of a program is
-shown_there : (program : List (Option Command)) (q : Question) (now : Sight) (geo : Geometry) (place : CutPlace) (inside : Option Action) → inside ≡ inside_at program place → ShowsAt program q now geo place
-    → shows_at geo inside q now ≡ true
-shown_there program q now geo (Before n) inside at shown = ap (λ o. shows_at geo o q now) at ∙ shown
-shown_there program q now geo (Inside n) inside at shown = ap (λ o. shows_at geo o q now) (at ∙ ap action_on shown.2) ∙ shown.3
+-- the first of some places passes
+first_passes : (test : Machine → Bool) (stops : List Stop) (stop : Stop) → first_stop test stops ≡ Some stop → test stop.state ≡ true
+first_passes test [] stop is = cc is
+first_passes test (s ∷ stops) stop is = by_test (test s.state) refl is (first_passes test stops stop)
+  where
+    by_test : (b : Bool) → test s.state ≡ b → cond b (Some s) (first_stop test stops) ≡ Some stop → (first_stop test stops ≡ Some stop → test stop.state ≡ true) → test stop.state ≡ true
+    by_test true passes found rest = let same : s ≡ stop = cc found in subst (λ (t : Stop). test t.state ≡ true) same passes
+    by_test false fails found rest = rest found
 
 -- The first place of a program that shows the look, and what is kept there.
-pub found_kept : (program : List (Option Command)) (q : Question) (now : Sight) (geo : Geometry) (look : List Seen) (place : CutPlace) (kept : Kept) (inside : Option Action) (h : Machine)
-    → IsProgram (inputs_of_lines program) → IsReady h → IsSound h → IsFirst program look now geo (cut_places 1 h (inputs_of_lines program)) (Some place) → IsLook look q → IsWhole now q → IsWithin now geo
-    → may_be_replies geo q ≡ true → inside ≡ inside_at program place → ShowsAt program q now geo place
+pub found_kept : (program : List (Option Command)) (q looked : Question) (now : Sight) (geo : Geometry) (look all : List Seen) (place : CutPlace) (kept : KeptAll) (inside : Option Action) (h : Machine)
+    → IsProgram (inputs_of_lines program) → IsReady h → IsSound h → IsFirst program look now geo (cut_places 1 h (inputs_of_lines program)) (Some place) → IsLook look q → IsLook all looked
+    → IsWhole now looked → IsWithin now geo → LooksWithin all look → inside ≡ inside_at program place
     → kept.lines.items ≡ map (line_kept geo inside (volume_asked q) now.lines.items) now.lines.items → kept.blocks.items ≡ map (block_kept geo inside (blocks_of q) now.blocks.items) now.blocks.items
-    → kept.files.items ≡ files_kept inside (files_asked q) now.files
-    → ((m : Machine) → Follows now geo m → IsReached m inside → may_show (look ++ told kept) (state_at m inside) ≡ true)
-    → IsFound look (first_stop (may_show look) (cut_places 1 h (inputs_of_lines program))) (Some (record { place = place; kept = kept }))
-found_kept program q now geo look place kept inside h can ready sound first is whole within replies at shown lines blocks files told_so =
+    → kept.sizes.items ≡ sizes_kept inside (files_asked q) (files_asked looked) now.files → kept.files.items ≡ files_kept inside (files_asked q) (files_asked looked) now.files
+    → ((m : Machine) → Follows now geo m → IsReached m inside → LooksThere geo inside q looked now → may_show look (state_at m inside) ≡ true → may_show (look ++ told kept) (state_at m inside) ≡ true)
+    → IsFound all look (first_stop (may_show look) (cut_places 1 h (inputs_of_lines program))) (Some (record { place = place; kept = kept }))
+found_kept program q looked now geo look all place kept inside h can ready sound first is are whole within under at lines blocks sizes files told_so =
     let stops = cut_places 1 h (inputs_of_lines program) in
-    subst (λ (stop : Option Stop). IsFound look stop (Some (record { place = place; kept = kept }))) (sym first.1) (
+    subst (λ (stop : Option Stop). IsFound all look stop (Some (record { place = place; kept = kept }))) (sym first.1) (
       sym first.2,
-      kept_there program q now geo look is whole within replies kept inside (shown_there program q now geo place inside at shown) lines blocks files told_so place first.0.state at first.3
+      kept_there program q looked now geo look all is are whole within under kept inside lines blocks sizes files told_so place first.0.state at first.3
+          (first_passes (may_show look) stops first.0 first.1)
           (first_is IsSound (may_show look) stops first.0 (places_sound (inputs_of_lines program) 1 h ready sound can) first.1),
     )

@@ -7,10 +7,12 @@ pub mod UntoldLemmas
 pub mod ChoiceLemmas
 pub mod MarkLemmas
 pub mod FileMarkLemmas
+mod SizeMarkLemmas
 pub mod SoundLemmas
 pub mod KeptLemmas
 pub mod FoundLemmas
 pub mod LookingLemmas
+pub mod LookedLemmas
 pub mod ResultLemmas
 pub mod FollowedLemmas
 pub mod LedLemmas

@@ -1,5 +1,5 @@
 -- A question that looks at all that some reads touch, read by read.
-use Rattle.std.proofs.Common.{◌≡◌, ◌+◌, ◌*◌, ◌/◌, ◌≤◌, ◌==◌, ◌&&◌, ℕ, Bool, true, false, Option, Some, None, List, [], ◌∷◌, ◌++◌, map, nat_le, nat_lt, refl, sym, ap, ap₂, ◌∙◌, append-nil, append_assoc, arith}
+use Rattle.std.proofs.Common.{◌≡◌, ◌+◌, ◌*◌, ◌/◌, ◌≤◌, ◌==◌, ◌&&◌, ℕ, Bool, true, false, Option, Some, None, List, [], ◌∷◌, ◌++◌, map, nat_le, nat_lt, refl, sym, subst, ap, ap₂, ◌∙◌, append-nil, append_assoc, arith}
 use Rattle.std.specs.List.{list_all}
 use Rattle.std.specs.Option.{is_some}
 use Rattle.std.proofs.lemmas.Bool.{and_from, and_parts, eq-eqb, le-leb, lt-ltb}
@@ -16,7 +16,8 @@ use Rattle.cut_places.specs.Outcomes.Files.{FileRead}
 use Rattle.cut_places.specs.Outcomes.Pages.{all_lines_read, is_reply, is_reply_by, lines_read}
 use Rattle.cut_places.specs.Outcomes.Pages.PageReply.{Poison}
 use Rattle.cut_places.specs.Outcomes.Blocks.BlockReply.{Scar}
-use Rattle.cut_places.specs.AskedReads.Asking.{blocks_of, files_asked, may_be_file_reply, may_be_replies, volume_asked}
+use Rattle.cut_places.specs.Outcomes.Seen.{Seen, block_reads, file_reads, volume_reads}
+use Rattle.cut_places.specs.AskedReads.Asking.{IsLook, blocks_of, files_asked, may_be_file_reply, may_be_replies, volume_asked}
 use Rattle.cut_places.specs.AskedReads.Reads.{block_read, file_read, page_read}
 use Rattle.cut_places.specs.AskedReads.declared.question.Question.{Question}
 use Rattle.cut_places.specs.AskedReads.declared.read.Read.{Read}
@@ -27,8 +28,8 @@ use Rattle.cut_places.specs.AskedReads.declared.reads.FileRead.{FileRead as File
 use Rattle.cut_places.specs.SeesFiles.{are_held, is_held}
 use Rattle.value_tables.specs.Looking.{blocks_looked_at, blocks_touched, file_lines_looked_at, file_lines_touched, lines_looked_at, lines_touched, none_refused}
 use Rattle.value_tables.specs.Rows.{read_refusal}
-use Rattle.witnesses.proofs.SeenLemmas.{all_lines_read-append, all_numbers_read-append}
-use Rattle.explorer.specs.Tabulating.{LooksAt, pages_read}
+use Rattle.witnesses.proofs.SeenLemmas.{all_lines_read-append, all_numbers_read-append, block_reads-append, file_reads-append, volume_reads-append}
+use Rattle.explorer.specs.Tabulating.{LooksAt, looked, pages_read, read_looked, unless_refused}
 
 -- one read more of a look
 lines_more : (geo : Geometry) (look : List Read) (r : Read) → lines_looked_at geo (look ++ r ∷ []) ≡ lines_looked_at geo look ++ none_refused (read_refusal geo r) (lines_touched r)
@@ -58,6 +59,27 @@ none_more ns ms (Some why) more = more ∙ append-nil ns
 all_more : (ns touched ms : List ℕ) (o : Option Why) → o ≡ None → ms ≡ ns ++ none_refused o touched → ms ≡ ns ++ touched
 all_more ns touched ms o none more = more ∙ ap (λ o. ns ++ none_refused o touched) none
 
+-- what is looked at
+looked_more : (geo : Geometry) (look : List Read) (r : Read) → looked geo (look ++ r ∷ []) ≡ looked geo look ++ unless_refused (read_refusal geo r) (read_looked r)
+looked_more geo [] r = append-nil (unless_refused (read_refusal geo r) (read_looked r))
+looked_more geo (x ∷ look) r =
+    ap (λ seen. unless_refused (read_refusal geo x) (read_looked x) ++ seen) (looked_more geo look r)
+    ∙ sym (append_assoc (unless_refused (read_refusal geo x) (read_looked x)) (looked geo look) (unless_refused (read_refusal geo r) (read_looked r)))
+
+refused_look : (geo : Geometry) (look : List Read) (r : Read) (why : Why) (q : Question) → read_refusal geo r ≡ Some why → IsLook (looked geo look) q → IsLook (looked geo (look ++ r ∷ [])) q
+refused_look geo look r why q is asks =
+    subst (λ seen. IsLook seen q) (sym (looked_more geo look r ∙ ap (λ o. looked geo look ++ unless_refused o (read_looked r)) is ∙ append-nil (looked geo look))) asks
+
+more_look : (geo : Geometry) (look : List Read) (r : Read) (old new : Question) → read_refusal geo r ≡ None → IsLook (looked geo look) old → volume_asked new ≡ volume_asked old ++ volume_reads (read_looked r ∷ [])
+    → blocks_of new ≡ blocks_of old ++ block_reads (read_looked r ∷ []) → files_asked new ≡ files_asked old ++ file_reads (read_looked r ∷ []) → IsLook (looked geo (look ++ r ∷ [])) new
+more_look geo look r old new none asks volume blocks files =
+    let one = read_looked r ∷ [] in
+    subst (λ seen. IsLook seen new) (sym (looked_more geo look r ∙ ap (λ o. looked geo look ++ unless_refused o (read_looked r)) none)) (record {
+      volume = volume_reads-append (looked geo look) one ∙ ap (λ rs. rs ++ volume_reads one) asks.volume ∙ sym volume;
+      blocks = block_reads-append (looked geo look) one ∙ ap (λ rs. rs ++ block_reads one) asks.blocks ∙ sym blocks;
+      files = file_reads-append (looked geo look) one ∙ ap (λ rs. rs ++ file_reads one) asks.files ∙ sym files;
+    })
+
 -- one that is refused touches nothing
 pub looks-refused : (geo : Geometry) (look : List Read) (r : Read) (why : Why) (q : Question) → read_refusal geo r ≡ Some why → LooksAt geo look q → LooksAt geo (look ++ r ∷ []) q
 looks-refused geo look r why q is looks = record {
@@ -65,6 +87,7 @@ looks-refused geo look r why q is looks = record {
   blocks = looks.blocks ∙ sym (blocks_more geo look r ∙ ap (λ o. blocks_looked_at geo look ++ none_refused o (blocks_touched r)) is ∙ append-nil (blocks_looked_at geo look));
   files = looks.files ∙ sym (files_more geo look r ∙ ap (λ o. file_lines_looked_at geo look ++ none_refused o (file_lines_touched r)) is ∙ append-nil (file_lines_looked_at geo look));
   replies = looks.replies;
+  asks = refused_look geo look r why q is looks.asks;
 }
 
 -- the first line that a read touches may be what it is answered, where it is not refused
@@ -133,6 +156,8 @@ looks-lines geo look start len old new asked none is volume same others looks =
         blocks = ap (λ xs. list_all (is_block_reply geo.blocks) (map block_read xs)) same ∙ may.blocks;
         files = ap (λ xs. list_all may_be_file_reply (map file_read xs)) others ∙ may.files;
       });
+      asks = more_look geo look r old new none looks.asks (asks ∙ ap (λ x. volume_asked old ++ x ∷ []) is)
+          (ap (map block_read) same ∙ sym (append-nil (blocks_of old))) (ap (map file_read) others ∙ sym (append-nil (files_asked old)));
     }
 
 -- one of blocks
@@ -155,6 +180,8 @@ looks-blocks geo look first count old new asked none same blocks is others looks
             (ap (is_block_reply geo.blocks) is ∙ may_scar geo.blocks first count none);
         files = ap (λ xs. list_all may_be_file_reply (map file_read xs)) others ∙ may.files;
       });
+      asks = more_look geo look r old new none looks.asks (ap (map page_read) same ∙ sym (append-nil (volume_asked old)))
+          (asks ∙ ap (λ x. blocks_of old ++ x ∷ []) is) (ap (map file_read) others ∙ sym (append-nil (files_asked old)));
     }
 
 -- and one of a file
@@ -178,6 +205,8 @@ looks-file geo look name start len old new asked none same others files is looks
         blocks = ap (λ xs. list_all (is_block_reply geo.blocks) (map block_read xs)) others ∙ may.blocks;
         files = one_more may_be_file_reply (files_asked old) (files_asked new) (file_read asked) asks may.files (ap may_be_file_reply is ∙ may_poison_file name start len none);
       });
+      asks = more_look geo look r old new none looks.asks (ap (map page_read) same ∙ sym (append-nil (volume_asked old)))
+          (ap (map block_read) others ∙ sym (append-nil (blocks_of old))) (asks ∙ ap (λ x. files_asked old ++ x ∷ []) is);
     }
 
 -- nothing is looked at for no read
@@ -191,6 +220,7 @@ looks-none geo q volume blocks files = record {
     blocks = ap (λ xs. list_all (is_block_reply geo.blocks) (map block_read xs)) blocks;
     files = ap (λ xs. list_all may_be_file_reply (map file_read xs)) files;
   });
+  asks = record { volume = sym (ap (map page_read) volume); blocks = sym (ap (map block_read) blocks); files = sym (ap (map file_read) files) };
 }
 
 -- lines of files that are held, read by read

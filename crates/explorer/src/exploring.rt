@@ -18,6 +18,7 @@ ghost use Rattle.explorer.specs.Finding.{IsFound, IsOn, inside_at};
 ghost use Rattle.explorer.specs.Leading.{led_through};
 ghost use Rattle.explorer.specs.Starting.{Begins};
 ghost use Rattle.explorer.specs.Stopping.{DeviceStopped, NoneFell};
+ghost use Rattle.explorer.specs.Tabulating.{LooksWithin};
 
 use crate::fault::ExploreFault;
 use crate::found::Found;
@@ -32,15 +33,16 @@ use std::alloc::{AllocError, Global};
 use witnesses::keep;
 use word_tables::Geometry;
 
-/// The first place of a cut in the program after which the question's look may show what it asks for, with what may be kept there;
-/// None where no cut leaves it. The first lines are performed before, and no cut in them is asked about. A line without a command is
-/// None.
+/// The first place of a cut in the program after which the question's look may show what it asks for, with what may be kept there of all
+/// that is looked at, more than the question asks about; None where no cut leaves it. The first lines are performed before, and no cut
+/// in them is asked about. A line without a command is None.
 pub fn explore<D: LineDevice>(
     alloc: Global,
     host: &mut Host,
     device: &mut D,
     first: &[Option<Command>],
     program: &[Option<Command>],
+    looked: &Question,
     question: &Question,
 ) -> Result<Option<Found>, ExploreFault>
     requires known { GoesOn host.old (D.state device.old) }
@@ -48,8 +50,10 @@ pub fn explore<D: LineDevice>(
     requires first_bounded { All IsBounded first.now }
     requires program { IsProgram (inputs_of_lines program.now) }
     requires bounded { All IsBounded program.now }
-    ensures found { (h : Machine) (look : List Seen) → Stands host.old (D.state device.old) h → Begins h → IsLook look question.now
-        → IfOk result (IsFound look (found_stop (led_through (armed h) (inputs_of_lines first.now)) (inputs_of_lines program.now) look)) }
+    requires replies { may_be_replies host.old.geometry looked.now ≡ true }
+    ensures found { (h : Machine) (look all : List Seen) → Stands host.old (D.state device.old) h → Begins h → IsLook look question.now → IsLook all looked.now
+        → LooksWithin all look
+        → IfOk result (IsFound all look (found_stop (led_through (armed h) (inputs_of_lines first.now)) (inputs_of_lines program.now) look)) }
     ensures counts { OnOk result (NoneFell (D.state device.old).panel (D.state device.new).panel) }
     ensures cause { (h : Machine) → Stands host.old (D.state device.old) h → Begins h
         → IfErr result (λ fault. fault ≡ ExploreFault.Device → DeviceStopped (D.state device.old).panel (D.state device.new).panel) }
@@ -58,8 +62,8 @@ pub fn explore<D: LineDevice>(
     if !may_be_replies(question, geometry) {
         return Ok(None);
     }
-    let watched = watch(alloc, host, device, first, program, question)?;
-    let found = follow(alloc, program, question, geometry, watched)?;
+    let watched = watch(alloc, host, device, first, program, looked)?;
+    let found = follow(alloc, program, looked, question, geometry, watched)?;
     Ok(found)
 }
 
@@ -67,6 +71,7 @@ pub fn explore<D: LineDevice>(
 fn follow(
     alloc: Global,
     program: &[Option<Command>],
+    looked: &Question,
     question: &Question,
     geometry: Geometry,
     watched: Watched,
@@ -75,18 +80,20 @@ fn follow(
     requires program { IsProgram (inputs_of_lines program.now) }
     requires bounded { All IsBounded program.now }
     requires told { length watched.done.items ≡ length program.now }
-    requires whole { IsWhole watched.sight question.now }
+    requires whole { IsWhole watched.sight looked.now }
     requires within { IsWithin watched.sight geometry }
     requires replies { may_be_replies geometry question.now ≡ true }
-    ensures { (h : Machine) (look : List Seen) → Follows watched.sight geometry h → AreDone h program.now watched.done.items → IsSound h → IsLook look question.now
-        → IfOk result (IsFound look (first_stop (may_show look) (cut_places 1 h (inputs_of_lines program.now)))) }
+    requires looked_replies { may_be_replies geometry looked.now ≡ true }
+    ensures { (h : Machine) (look all : List Seen) → Follows watched.sight geometry h → AreDone h program.now watched.done.items → IsSound h → IsLook look question.now → IsLook all looked.now
+        → LooksWithin all look
+        → IfOk result (IsFound all look (first_stop (may_show look) (cut_places 1 h (inputs_of_lines program.now)))) }
 {
     let Watched { mut sight, done } = watched;
     let Some(place) = find(program, &done, geometry, question, &mut sight)? else {
         return Ok(None);
     };
     let inside = command_at(program, place);
-    let kept = keep(alloc, question, &sight, geometry, inside)?;
+    let kept = keep(alloc, question, looked, &sight, geometry, inside)?;
     Ok(Some(Found { place, kept }))
 }
 

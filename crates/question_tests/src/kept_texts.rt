@@ -5,7 +5,7 @@ use block_sights::{HeldBlock, Unreadable};
 use nvm_base::Name;
 use std::alloc::Global;
 use std::test::Fail;
-use witnesses::{BlockKept, FileLineKept, Kept, LineKept, LineLeft, kept_text};
+use witnesses::{BlockKept, FileLineKept, Kept, LineKept, LineLeft, SizeKept, kept_text};
 
 const WORDS: LineLeft = LineLeft::Words([7, 9, 0, 0, 0, 0, 0, 0]);
 
@@ -86,15 +86,24 @@ fn what_is_kept_is_told_once(rt: HostRuntime) -> Result<(), Fail> {
         block: HeldBlock::unreadable(alloc, Unreadable::BadLine(2))?,
         free: true,
     })?;
+    let mut sizes = Vec::new(alloc);
+    for _ in 0..2 {
+        sizes.push(SizeKept {
+            name: log()?,
+            pages: Some(3),
+            free: true,
+        })?;
+    }
     let kept = Kept {
         lines: kept_lines(alloc)?,
         blocks,
+        sizes,
         files: kept_file_lines(alloc)?,
     };
     let text = kept_text(alloc, &question(alloc)?, &kept)?;
     assert_eq!(rt;
         text.as_slice(),
-        b" | volume 64 07,00*7 | volume 128 poison | block 3 poison 2 | file log 8 09,00*7 | file log 64 poison".as_slice()
+        b" | volume 64 07,00*7 | volume 128 poison | block 3 poison 2 | file log pages 3 | file log 8 09,00*7 | file log 64 poison".as_slice()
     );
     Ok(())
 }

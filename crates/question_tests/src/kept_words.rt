@@ -113,7 +113,7 @@ fn words_keep_the_first_value_on_which_all_reads_agree(rt: HostRuntime) -> Resul
             files: FilesSeen::new(alloc, Vec::new(alloc)),
         };
         assert!(rt; SIZES.valid() && may_be_replies(&question, SIZES) && sight.shows(&question));
-        let kept = keep(alloc, &question, &sight, SIZES, None)?;
+        let kept = keep(alloc, &question, &question, &sight, SIZES, None)?;
         assert_eq!(rt; kept.lines.len(), 1);
         assert_eq!(rt;
             (kept.lines[0].left, kept.lines[0].free),

@@ -1,12 +1,11 @@
 -- Looks of one word, of the volume or a file, or one block, and the states of which a table lists what they may show.
-use Rattle.std.specs.Prelude.{◌≡◌, ◌*◌, ◌/◌, ◌<◌, ◌≤◌, ℕ, Bool, List, [], ◌∷◌, length}
+use Rattle.std.specs.Prelude.{◌≡◌, ◌*◌, ◌/◌, ◌<◌, ℕ, Bool, List, [], ◌∷◌, length}
 use Rattle.std.specs.Int.{w64, to_le_bytes}
 use Rattle.std.specs.List.{list_any}
 use Rattle.std.specs.Str.{bytes_eq}
-use Rattle.nvm_model.specs.Cell.{Cell}
-use Rattle.nvm_model.specs.Cell.Cell.{Bad, Kept}
 use Rattle.block_sights.specs.Sights.{Sight}
 use Rattle.block_sights.specs.Sights.Sight.{Whole, Scar, BadLine}
+pub use Rattle.cut_places.specs.Enough.{HasWords, HaveOne}
 use Rattle.cut_places.specs.MachineModel.Machine.{Machine}
 use Rattle.cut_places.specs.Durable.Durable.{AllHaveLines, HaveLines, IsCounted}
 use Rattle.cut_places.specs.Outcomes.Blocks.{BlockReply}
@@ -17,15 +16,6 @@ use Rattle.cut_places.specs.Outcomes.Seen.{Seen}
 use Rattle.cut_places.specs.Outcomes.Seen.Seen.{of_blocks, of_file, of_volume}
 use Rattle.cut_places.specs.SightsSeen.Seeing.{seen}
 use Rattle.cut_places.specs.SightsSeen.BlockTelling.{same_sight}
-
--- a line is bad, or has eight words, each with a value
-abbrev pub HaveOne : List (List ℕ) → Type 0
-HaveOne [] = Unit {0}
-HaveOne (history ∷ words) = (1 ≤ length history) × HaveOne words
-
-abbrev pub HasWords : Cell → Type 0
-HasWords Bad = Unit {0}
-HasWords (Kept weak words) = (length words ≡ 8) × HaveOne words
 
 -- all blocks and pages are there, and so are their lines as reads see them; and so are those of files, whose words have values
 pub record IsSound (off : Machine) : Type 0 where

@@ -8,6 +8,9 @@ pub mod BlockToldLemmas
 pub mod SeenLemmas
 pub mod AskedLemmas
 pub mod UnitLemmas
+pub mod HeldPlaceLemmas
+pub mod ThereLemmas
+pub mod FilesReadLemmas
 pub mod FilesToldLemmas
 pub mod FilesLemmas
 pub mod SidesLemmas

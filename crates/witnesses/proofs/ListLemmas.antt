@@ -1,7 +1,7 @@
 -- Tests over lists, and their items.
-use Rattle.std.proofs.Common.{◌≡◌, ◌⊎◌, inl, inr, ℕ, zero, suc, ◌+◌, ◌<◌, ◌≤◌, Bool, true, false, cond, ◌&&◌, ◌||◌, List, [], ◌∷◌, ◌++◌, map, flat_map, Some, find, unwrap_or, length, take, get_or, refl, sym, ap, ◌∙◌, arith, append-nil, append_assoc}
+use Rattle.std.proofs.Common.{◌≡◌, ◌⊎◌, inl, inr, ℕ, zero, suc, ◌+◌, ◌<◌, ◌≤◌, ◌==◌, not, Bool, true, false, cond, ◌&&◌, ◌||◌, List, [], ◌∷◌, ◌++◌, map, flat_map, Some, find, unwrap_or, length, take, get_or, refl, sym, ap, subst, ◌∙◌, arith, append-nil, append_assoc}
 use Rattle.std.specs.List.{list_all, list_any, range_with_len}
-use Rattle.std.proofs.lemmas.Bool.{and_from, and_parts, cases_lt, or_left, or_right}
+use Rattle.std.proofs.lemmas.Bool.{and_from, and_parts, cases_lt, eqb-true, or_left, or_right}
 use Rattle.std.proofs.lemmas.Grind.{flat_map-append}
 use Rattle.std.proofs.lemmas.List.Folds.{list_all-append}
 use Rattle.std.proofs.lemmas.List.{map-append, take_more}
@@ -11,21 +11,8 @@ use Rattle.cut_places.specs.Outcomes.Files.{reads_of}
 use Rattle.cut_places.specs.Outcomes.Pages.{PageRead}
 use Rattle.cut_places.specs.AskedReads.Reads.{file_reads_asked, page_read}
 use Rattle.cut_places.specs.AskedReads.declared.reads.FileRead.{FileRead as Asked}
-
--- x is one of them
-abbrev pub IsAmong : {A : Type 0} → A → List A → Type 0
-IsAmong x [] = ⊥
-IsAmong x (y ∷ ys) = (x ≡ y) ⊎ IsAmong x ys
-
--- what all pass each of them passes, and back
-pub all_of : {A : Type 0} (f : A → Bool) (x : A) (xs : List A) → list_all f xs ≡ true → IsAmong x xs → f x ≡ true
-all_of f x [] all is = absurd is
-all_of f x (y ∷ ys) all (inl same) = ap f same ∙ (and_parts (f y) (list_all f ys) all).0
-all_of f x (y ∷ ys) all (inr later) = all_of f x ys (and_parts (f y) (list_all f ys) all).1 later
-
-pub all_from : {A : Type 0} (f : A → Bool) (xs : List A) → ((x : A) → IsAmong x xs → f x ≡ true) → list_all f xs ≡ true
-all_from f [] each = refl
-all_from f (x ∷ xs) each = and_from (f x) (list_all f xs) (each x (inl refl)) (all_from f xs (λ y is. each y (inr is)))
+pub use Rattle.cut_places.specs.Enough.{IsAmong}
+pub use Rattle.cut_places.proofs.AmongLemmas.{all_from, all_of, among_numbers, among_or_not, range_all, some_of}
 
 -- what is one of the first of a list, or of the last, is one of all
 pub among_first : {A : Type 0} (x : A) (xs ys : List A) → IsAmong x xs → IsAmong x (xs ++ ys)
@@ -36,6 +23,14 @@ among_first x (y ∷ xs) ys (inr later) = inr (among_first x xs ys later)
 pub among_last : {A : Type 0} (x : A) (xs ys : List A) → IsAmong x ys → IsAmong x (xs ++ ys)
 among_last x [] ys is = is
 among_last x (y ∷ xs) ys is = inr (among_last x xs ys is)
+
+pub among_parts : {A : Type 0} (x : A) (xs ys : List A) → IsAmong x (xs ++ ys) → IsAmong x xs ⊎ IsAmong x ys
+among_parts x [] ys is = inr is
+among_parts x (y ∷ xs) ys (inl same) = inl (inl same)
+among_parts x (y ∷ xs) ys (inr later) = elim (among_parts x xs ys later) as (λ _. IsAmong x (y ∷ xs) ⊎ IsAmong x ys) [
+  | inl here ↦ inl (inr here)
+  | inr there ↦ inr there
+]
 
 -- each of them is among those that they become
 pub among_map : {A B : Type 0} (f : A → B) (x : A) (xs : List A) → IsAmong x xs → IsAmong (f x) (map f xs)
@@ -48,6 +43,14 @@ pub pushed : {A B : Type 0} (f : A → B) (xs : List A) (i : ℕ) (x : A) (y : B
     → new ≡ map f (take (i + 1) xs)
 pushed f xs i x y old new lt is was pushes made =
     pushes ∙ ap (λ ys. ys ++ y ∷ []) was ∙ ap (λ z. map f (take i xs) ++ z ∷ []) (made ∙ ap f is) ∙ sym (map-append f (take i xs) (get_or xs i x ∷ [])) ∙ sym (ap (map f) (take_more xs i x lt))
+
+-- and made something by what it is made
+pub pushed_of : {A B C : Type 0} (f : B → C) (g : A → B) (xs : List A) (i : ℕ) (x : A) (y : C) (old new : List C) → i < length xs → x ≡ get_or xs i x → old ≡ map f (map g (take i xs)) → new ≡ old ++ y ∷ []
+    → y ≡ f (g x) → new ≡ map f (map g (take (i + 1) xs))
+pushed_of f g xs i x y old new lt is was pushes made =
+    pushes ∙ ap (λ ys. ys ++ y ∷ []) was ∙ ap (λ z. map f (map g (take i xs)) ++ z ∷ []) (made ∙ ap (λ z. f (g z)) is)
+    ∙ sym (map-append f (map g (take i xs)) (map g (get_or xs i x ∷ []))) ∙ sym (ap (map f) (map-append g (take i xs) (get_or xs i x ∷ [])))
+    ∙ sym (ap (λ ys. map f (map g ys)) (take_more xs i x lt))
 
 -- of items that are made something, each passes; and one more of them made a list
 pub item_passes : {A B : Type 0} (test : B → Bool) (f : A → B) (xs : List A) (i : ℕ) (x : A) → i < length xs → x ≡ get_or xs i x → list_all test (map f xs) ≡ true → test (f x) ≡ true
@@ -64,17 +67,7 @@ appended_of f g xs i x first old new lt is was more =
     ∙ sym (flat_map-append f (map g (take i xs)) (g (get_or xs i x) ∷ []))
     ∙ sym (ap (flat_map f) (ap (map g) (take_more xs i x lt) ∙ map-append g (take i xs) (get_or xs i x ∷ []))))
 
--- all twice over
-pub all_twice : {A : Type 0} (f : A → Bool) (xs : List A) → list_all f xs ≡ true → list_all f (xs ++ xs) ≡ true
-all_twice f xs all = list_all-append f xs xs ∙ and_from (list_all f xs) (list_all f xs) all all
-
--- numbers of a range, both ways
-pub range_all : (f : ℕ → Bool) (start count : ℕ) → ((k : ℕ) → start ≤ k → k < start + count → f k ≡ true) → list_all f (range_with_len start count) ≡ true
-range_all f start zero each = refl
-range_all f start (suc count) each =
-    and_from (f start) (list_all f (range_with_len (start + 1) count)) (each start (omega arith) (omega arith))
-    (range_all f (start + 1) count (λ k from to. each k (omega (arith, from)) (omega (arith, to))))
-
+-- numbers of a range
 pub range_each : (f : ℕ → Bool) (start count : ℕ) → list_all f (range_with_len start count) ≡ true → (k : ℕ) → start ≤ k → k < start + count → f k ≡ true
 range_each f start zero all k from to = absurd (omega (arith, from, to))
 range_each f start (suc count) all k from to =

@@ -1,5 +1,5 @@
 -- Reads of one look behind those of another: what a state may show of both.
-use Rattle.std.proofs.Common.{◌≡◌, ℕ, ◌*◌, ◌&&◌, true, List, [], ◌∷◌, ◌++◌, map, refl, sym, ap, ◌∙◌, append_assoc, append-nil, Option}
+use Rattle.std.proofs.Common.{◌≡◌, inl, inr, ℕ, ◌*◌, ◌&&◌, true, List, [], ◌∷◌, ◌++◌, map, refl, sym, ap, subst, ◌∙◌, append_assoc, append-nil, Option}
 use Rattle.std.specs.List.{list_all}
 use Rattle.std.proofs.lemmas.Bool.{and_from, and_parts}
 use Rattle.std.proofs.lemmas.List.Folds.{list_all-append}
@@ -15,19 +15,19 @@ use Rattle.cut_places.specs.Outcomes.Seen.Seen.{of_blocks, of_file, of_volume}
 use Rattle.witnesses.proofs.ListLemmas.{IsAmong}
 use Rattle.witnesses.proofs.MoreLemmas.{blocks_more, volume_more}
 
-volume_reads-append : (look more : List Seen) → volume_reads (look ++ more) ≡ volume_reads look ++ volume_reads more
+pub volume_reads-append : (look more : List Seen) → volume_reads (look ++ more) ≡ volume_reads look ++ volume_reads more
 volume_reads-append [] more = refl
 volume_reads-append (of_volume r ∷ look) more = ap (λ rs. r ∷ rs) (volume_reads-append look more)
 volume_reads-append (of_blocks r ∷ look) more = volume_reads-append look more
 volume_reads-append (of_file r ∷ look) more = volume_reads-append look more
 
-block_reads-append : (look more : List Seen) → block_reads (look ++ more) ≡ block_reads look ++ block_reads more
+pub block_reads-append : (look more : List Seen) → block_reads (look ++ more) ≡ block_reads look ++ block_reads more
 block_reads-append [] more = refl
 block_reads-append (of_volume r ∷ look) more = block_reads-append look more
 block_reads-append (of_blocks r ∷ look) more = ap (λ rs. r ∷ rs) (block_reads-append look more)
 block_reads-append (of_file r ∷ look) more = block_reads-append look more
 
-file_reads-append : (look more : List Seen) → file_reads (look ++ more) ≡ file_reads look ++ file_reads more
+pub file_reads-append : (look more : List Seen) → file_reads (look ++ more) ≡ file_reads look ++ file_reads more
 file_reads-append [] more = refl
 file_reads-append (of_volume r ∷ look) more = file_reads-append look more
 file_reads-append (of_blocks r ∷ look) more = file_reads-append look more
@@ -93,8 +93,14 @@ module _ (pages : List PageRead) (blocks : List BlockRead) (files : List FileRea
   files_of =
       ap file_reads in_parts ∙ file_reads-append (look_of pages blocks) (map of_file files) ∙ ap (λ rs. rs ++ file_reads (map of_file files)) (files_in pages blocks) ∙ (only_files files).2
 
--- What a state may show of the one look it may show of both, where both look at the same, whatever fits the one fits both, and each
--- reply is one that a read has; and where it may show the reads of files of both.
+-- what is one of some, or of those that these are among
+in_both : (some all : List ℕ) (n : ℕ) → ((n : ℕ) → IsAmong n some → IsAmong n all) → IsAmong n (some ++ all) → IsAmong n all
+in_both [] all n among is = is
+in_both (x ∷ some) all n among (inl same) = among n (inl same)
+in_both (x ∷ some) all n among (inr later) = in_both some all n (λ m is. among m (inr is)) later
+
+-- What a state may show of the one look it may show of both, where it looks at all that the other looks at, whatever fits the one fits
+-- both, and each reply is one that a read has; and where it may show the reads of files of both.
 module _ (off : Machine) (look : List Seen) (pages asked : List PageRead) (blocks units : List BlockRead) (is : volume_reads look ≡ asked) (are : block_reads look ≡ units) (files more_files : List FileRead) (of_files : file_reads look ≡ files)
     (shown : may_show (look_of pages blocks) off ≡ true) (files_shown : files_may_show off (files ++ more_files) ≡ true) where
   parts : (volume_may_show off pages ≡ true) × (blocks_may_show off blocks ≡ true)
@@ -103,27 +109,28 @@ module _ (off : Machine) (look : List Seen) (pages asked : List PageRead) (block
       let rest = and_parts (blocks_may_show off (block_reads (look_of pages blocks))) (files_may_show off (file_reads (look_of pages blocks))) first.1 in
       (sym (ap (volume_may_show off) (volume_in pages blocks)) ∙ first.0, sym (ap (blocks_may_show off) (blocks_in pages blocks)) ∙ rest.0)
 
-  both_volume : all_lines_read asked ≡ all_lines_read pages → list_all (is_reply (4096 * off.geometry.vpages)) asked ≡ true
+  both_volume : ((n : ℕ) → IsAmong n (all_lines_read asked) → IsAmong n (all_lines_read pages)) → list_all (is_reply (4096 * off.geometry.vpages)) asked ≡ true
       → ((n : ℕ) → IsAmong n (all_lines_read pages) → (o : Option Cell) → line_fits pages n o ≡ true → line_fits (asked ++ pages) n o ≡ true)
       → volume_may_show off (asked ++ pages) ≡ true
-  both_volume same replies more =
+  both_volume among replies more =
       let told = and_parts (list_all (is_reply (4096 * off.geometry.vpages)) pages) (volume_may_pass off.geometry off.interrupted (line_fits pages) off.volume (all_lines_read pages)) parts.0 in
       and_from (list_all (is_reply (4096 * off.geometry.vpages)) (asked ++ pages)) (volume_may_pass off.geometry off.interrupted (line_fits (asked ++ pages)) off.volume (all_lines_read (asked ++ pages)))
       (list_all-append (is_reply (4096 * off.geometry.vpages)) asked pages ∙ and_from (list_all (is_reply (4096 * off.geometry.vpages)) asked) (list_all (is_reply (4096 * off.geometry.vpages)) pages) replies told.0)
-      (ap (volume_may_pass off.geometry off.interrupted (line_fits (asked ++ pages)) off.volume) (all_lines_read-append asked pages ∙ ap (λ ns. ns ++ all_lines_read pages) same)
-      ∙ volume_more (line_fits pages) (line_fits (asked ++ pages)) (all_lines_read pages) more off.geometry off.interrupted off.volume told.1)
+      (volume_more (line_fits pages) (line_fits (asked ++ pages)) (all_lines_read pages) (all_lines_read (asked ++ pages))
+      (λ n is. in_both (all_lines_read asked) (all_lines_read pages) n among (subst (IsAmong n) (all_lines_read-append asked pages) is)) more off.geometry off.interrupted off.volume told.1)
 
-  both_blocks : all_numbers_read units ≡ all_numbers_read blocks → list_all (is_block_reply off.geometry.blocks) units ≡ true
+  both_blocks : ((n : ℕ) → IsAmong n (all_numbers_read units) → IsAmong n (all_numbers_read blocks)) → list_all (is_block_reply off.geometry.blocks) units ≡ true
       → ((n : ℕ) → IsAmong n (all_numbers_read blocks) → (block : Block) → block_fits blocks n block ≡ true → block_fits (units ++ blocks) n block ≡ true)
       → blocks_may_show off (units ++ blocks) ≡ true
-  both_blocks same replies more =
+  both_blocks among replies more =
       let told = and_parts (list_all (is_block_reply off.geometry.blocks) blocks) (blocks_may_pass off.interrupted (block_fits blocks) off.blocks (all_numbers_read blocks)) parts.1 in
       and_from (list_all (is_block_reply off.geometry.blocks) (units ++ blocks)) (blocks_may_pass off.interrupted (block_fits (units ++ blocks)) off.blocks (all_numbers_read (units ++ blocks)))
       (list_all-append (is_block_reply off.geometry.blocks) units blocks ∙ and_from (list_all (is_block_reply off.geometry.blocks) units) (list_all (is_block_reply off.geometry.blocks) blocks) replies told.0)
-      (ap (blocks_may_pass off.interrupted (block_fits (units ++ blocks)) off.blocks) (all_numbers_read-append units blocks ∙ ap (λ ns. ns ++ all_numbers_read blocks) same)
-      ∙ blocks_more (block_fits blocks) (block_fits (units ++ blocks)) (all_numbers_read blocks) more off.interrupted off.blocks told.1)
+      (blocks_more (block_fits blocks) (block_fits (units ++ blocks)) (all_numbers_read blocks) (all_numbers_read (units ++ blocks))
+      (λ n is. in_both (all_numbers_read units) (all_numbers_read blocks) n among (subst (IsAmong n) (all_numbers_read-append units blocks) is)) more off.interrupted off.blocks told.1)
 
-  pub both_shown : all_lines_read asked ≡ all_lines_read pages → all_numbers_read units ≡ all_numbers_read blocks
+  pub both_shown : ((n : ℕ) → IsAmong n (all_lines_read asked) → IsAmong n (all_lines_read pages))
+      → ((n : ℕ) → IsAmong n (all_numbers_read units) → IsAmong n (all_numbers_read blocks))
       → list_all (is_reply (4096 * off.geometry.vpages)) asked ≡ true → list_all (is_block_reply off.geometry.blocks) units ≡ true
       → ((n : ℕ) → IsAmong n (all_lines_read pages) → (o : Option Cell) → line_fits pages n o ≡ true → line_fits (asked ++ pages) n o ≡ true)
       → ((n : ℕ) → IsAmong n (all_numbers_read blocks) → (block : Block) → block_fits blocks n block ≡ true → block_fits (units ++ blocks) n block ≡ true)

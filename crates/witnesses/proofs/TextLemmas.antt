@@ -4,7 +4,7 @@ use Rattle.std.specs.List.{range_with_len}
 use Rattle.std.specs.Result.{OnOk}
 use Rattle.std.proofs.Math.Seq.{drop-cons}
 use Rattle.std.proofs.lemmas.Grind.{flat_map-append}
-use Rattle.std.proofs.lemmas.List.{map-append, take_more}
+use Rattle.std.proofs.lemmas.List.{take_more}
 use Rattle.nvm_model.proofs.RangeLemmas.{range-split}
 use Rattle.witnesses.specs.Texts.{texts_once, unless_told}
 
@@ -44,10 +44,10 @@ one_more text n old mid new was more =
     ∙ ap (λ l. old ++ l) (sym (ap (flat_map text) (range-split 0 n 1) ∙ flat_map-append text (range_with_len 0 n) (range_with_len (0 + n) 1)
     ∙ ap (λ l. flat_map text (range_with_len 0 n) ++ l) (append-nil (text (0 + n)) ∙ ap text (omega arith))))
 
-pub one_more_made : {A : Type 0} (f : ℕ → A) (start k : ℕ) (first old new : List A) (y : A) → old ≡ first ++ map f (range_with_len start k) → new ≡ old ++ y ∷ [] → y ≡ f (start + k)
-    → new ≡ first ++ map f (range_with_len start (k + 1))
-one_more_made f start k first old new y was pushes made =
-    two first old new (map f (range_with_len start k)) (y ∷ []) was pushes
+pub more_of_range : {A : Type 0} (f : ℕ → List A) (start k : ℕ) (first old new : List A) → old ≡ first ++ flat_map f (range_with_len start k) → new ≡ old ++ f (start + k)
+    → new ≡ first ++ flat_map f (range_with_len start (k + 1))
+more_of_range f start k first old new was more =
+    two first old new (flat_map f (range_with_len start k)) (f (start + k)) was more
     ∙ ap (λ l. first ++ l)
-    (ap (λ z. map f (range_with_len start k) ++ z ∷ []) made
-    ∙ sym (ap (map f) (range-split start k 1) ∙ map-append f (range_with_len start k) (range_with_len (start + k) 1)))
+    (sym (ap (flat_map f) (range-split start k 1) ∙ flat_map-append f (range_with_len start k) (range_with_len (start + k) 1)
+    ∙ ap (λ l. flat_map f (range_with_len start k) ++ l) (append-nil (f (start + k)))))

@@ -1,10 +1,10 @@
 -- What is kept of the lines of files.
-use Rattle.std.specs.Prelude.{◌/◌, ℕ, List, flat_map, map, nat_lt, replicate, Option, Some, None, option_and_then, option_map, if◌then◌else◌}
+use Rattle.std.specs.Prelude.{◌/◌, ℕ, List, [], ◌∷◌, flat_map, map, nat_lt, Option, Some, None, option_and_then, option_map, if◌then◌else◌}
 use Rattle.nvm_model.specs.Cell.{Cell}
 use Rattle.nvm_model.specs.Listing.{file_of}
 use Rattle.script_text.specs.Action.{Action}
 use Rattle.cut_places.specs.Outcomes.Files.{FileRead, reads_of}
-use Rattle.cut_places.specs.Outcomes.Pages.{PageRead, lines_read}
+use Rattle.cut_places.specs.Outcomes.Pages.{lines_read}
 use Rattle.cut_places.specs.FileChanges.{left_by}
 use Rattle.cut_places.specs.FileCommands.{files_change}
 use Rattle.cut_places.specs.FileLines.{line_held}
@@ -14,8 +14,6 @@ use Rattle.cut_places.specs.FilesState.{FileState, FilesState, name_seen}
 use Rattle.cut_places.specs.Sights.{files_once_done}
 use Rattle.cut_places.specs.SightsSeen.declared.way.Way.{Way}
 use Rattle.witnesses.specs.declared.file_kept.FileLineKept.{FileLineKept}
-use Rattle.witnesses.specs.declared.line_kept.LineLeft.{LineLeft}
-use Rattle.witnesses.specs.declared.line_kept.LineLeft.TheVariants as left
 use Rattle.witnesses.specs.Leaving.{made_by, mixing}
 use Rattle.witnesses.specs.Lines.{free_words, left_of}
 
@@ -23,11 +21,6 @@ use Rattle.witnesses.specs.Lines.{free_words, left_of}
 abbrev pub line_there : ℕ → Option FileState → Option Cell
 line_there n None = None
 line_there n (Some file) = if nat_lt (n / 64) file.pages then line_held n file.lines else None
-
--- as reads may find it; one that is not held is taken for one of zeros
-abbrev pub left_at : List PageRead → ℕ → Option Cell → LineLeft
-left_at reads n None = left.Words (replicate 8 0)
-left_at reads n (Some cell) = left_of reads n cell
 
 -- how a cut inside a command mixes files
 abbrev pub files_way : FilesState → Action → Option Way
@@ -40,20 +33,23 @@ files_made inside s = made_by files_once_done (mixing (option_and_then (files_wa
 abbrev pub left_there : Option Action → List FileRead → FilesState → FilesState
 left_there inside reads s = files_left (option_map (files_change s.mappings.mappings) inside) reads s
 
--- what is kept of line n of a file, which is now so, is made so, and is left so
-abbrev pub line_kept_of : List FileRead → List ℕ → ℕ → Option FileState → Option FileState → Option FileState → FileLineKept
-line_kept_of reads name n now made file =
-    let kept = left_at (reads_of name reads) n (line_there n file) in
-    record { name = name; number = n; left = kept; free = free_words (line_there n now) (line_there n made) kept }
+-- what is kept of line n of a file, which is now so, is made so, and is left as this line, by reads of that name; if there is one
+abbrev pub line_kept_of : List FileRead → List ℕ → ℕ → Option FileState → Option FileState → Cell → FileLineKept
+line_kept_of reads name n now made line =
+    let kept = left_of (reads_of name reads) n line in record { name = name; number = n; left = kept; free = free_words (line_there n now) (line_there n made) kept }
 
--- and of each line that a read looks at
+abbrev pub line_kept_in : List FileRead → List ℕ → ℕ → Option FileState → Option FileState → Option Cell → List FileLineKept
+line_kept_in reads name n now made None = []
+line_kept_in reads name n now made (Some line) = line_kept_of reads name n now made line ∷ []
+
+-- and of each line that is there at which a read looks
 abbrev pub read_kept : List FileRead → FilesState → FilesState → FilesState → FileRead → List FileLineKept
-read_kept reads now made file r =
-    map (λ n. line_kept_of reads r.name n (file_of name_seen r.name now.files) (file_of name_seen r.name made.files) (file_of name_seen r.name file.files))
+read_kept reads now made left r =
+    flat_map (λ n. line_kept_in reads r.name n (file_of name_seen r.name now.files) (file_of name_seen r.name made.files) (line_there n (file_of name_seen r.name left.files)))
     (lines_read r.pages.start r.pages.len r.pages.reply)
 
-abbrev pub files_kept : Option Action → List FileRead → FilesState → List FileLineKept
-files_kept inside reads s = flat_map (read_kept reads s (files_made inside s) (left_there inside reads s)) reads
+abbrev pub files_kept : Option Action → List FileRead → List FileRead → FilesState → List FileLineKept
+files_kept inside reads looked s = flat_map (read_kept reads s (files_made inside s) (left_there inside reads s)) looked
 
 -- which lines of which files: those that are kept, and those that reads look at
 abbrev pub place_of : FileLineKept → List ℕ × ℕ

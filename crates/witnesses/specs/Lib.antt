@@ -3,8 +3,10 @@ pub mod Lines
 pub mod Blocks
 pub mod Asked
 pub mod Files
+pub mod Sizes
 pub mod Telling
 pub mod Places
+pub mod Keeping
 pub mod Texts
 pub mod Rows
 pub mod FileRows

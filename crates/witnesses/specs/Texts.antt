@@ -1,5 +1,5 @@
 -- What is kept, as it is printed behind an answer.
-use Rattle.std.specs.Prelude.{◌+◌, ◌*◌, ◌==◌, ◌&&◌, ℕ, Bool, false, List, [], ◌∷◌, ◌++◌, codes, decimal, flat_map, slice_index, slice_index_or, if◌then◌else◌}
+use Rattle.std.specs.Prelude.{◌+◌, ◌*◌, ◌==◌, ◌&&◌, ℕ, Bool, false, List, [], ◌∷◌, ◌++◌, codes, decimal, flat_map, Option, Some, None, slice_index, slice_index_or, if◌then◌else◌}
 use Rattle.std.specs.Int.{to_le_bytes, w64}
 use Rattle.std.specs.List.{list_any, range_with_len}
 use Rattle.std.specs.Str.{bytes_eq}
@@ -15,6 +15,7 @@ use Rattle.witnesses.specs.declared.line_kept.LineLeft.TheVariants as left
 use Rattle.witnesses.specs.declared.line_kept.LineKept.{LineKept}
 use Rattle.witnesses.specs.declared.block_kept.BlockKept.{BlockKept}
 use Rattle.witnesses.specs.declared.file_kept.FileLineKept.{FileLineKept}
+use Rattle.witnesses.specs.declared.size_kept.SizeKept.{SizeKept}
 use Rattle.witnesses.specs.declared.kept.Kept.{Kept}
 use Rattle.witnesses.specs.Asked.{file_head, volume_head}
 
@@ -59,6 +60,15 @@ whole_text b sight = codes " | block " ++ (decimal b ++ sight_text sight)
 abbrev pub block_text : BlockKept → List ℕ
 block_text kept = if kept.free then whole_text kept.number kept.block else []
 
+-- a file that is not there, or how many pages it has
+unfoldable pub pages_text : List ℕ → Option ℕ → List ℕ
+pages_text name None = file_head name ++ codes "missing"
+pages_text name (Some pages) = file_head name ++ (codes "pages " ++ decimal pages)
+
+-- where it could be otherwise
+abbrev pub size_text : SizeKept → List ℕ
+size_text kept = if kept.free then pages_text kept.name kept.pages else []
+
 -- a text, if none of the same came before
 abbrev pub unless_told : {A : Type 0} → (A → A → Bool) → (A → List ℕ) → List A → A → List ℕ
 unless_told same text before x = if list_any (λ y. same y x) before then [] else text x
@@ -68,25 +78,31 @@ abbrev pub texts_once : {A : Type 0} → (A → A → Bool) → (A → List ℕ)
 texts_once same text before [] = []
 texts_once same text before (x ∷ xs) = unless_told same text before x ++ texts_once same text (before ++ x ∷ []) xs
 
--- two lines of one number, two blocks of one, and two lines of one number and file
+-- two lines of one number, two blocks of one, two of one file, and two lines of one number and file
 abbrev pub same_line : LineKept → LineKept → Bool
 same_line a b = a.number == b.number
 
 abbrev pub same_block : BlockKept → BlockKept → Bool
 same_block a b = a.number == b.number
 
+abbrev pub same_size : SizeKept → SizeKept → Bool
+same_size a b = bytes_eq a.name b.name
+
 abbrev pub same_file_line : FileLineKept → FileLineKept → Bool
 same_file_line a b = (a.number == b.number) && bytes_eq a.name b.name
 
--- all that is kept: lines, then blocks, and then lines of files
+-- all that is kept: lines, then blocks, then whether files are there and how long, and then their lines
 abbrev pub lines_text : List PageRead → List LineKept → List ℕ
 lines_text reads lines = texts_once same_line (line_text reads) [] lines
 
 abbrev pub blocks_text : List BlockKept → List ℕ
 blocks_text units = texts_once same_block block_text [] units
 
+abbrev pub sizes_text : List SizeKept → List ℕ
+sizes_text sizes = texts_once same_size size_text [] sizes
+
 abbrev pub files_text : List FileRead → List FileLineKept → List ℕ
 files_text reads lines = texts_once same_file_line (file_line_text reads) [] lines
 
 abbrev pub kept_text : List PageRead → List FileRead → Kept → List ℕ
-kept_text volume files kept = lines_text volume kept.lines.items ++ (blocks_text kept.blocks.items ++ files_text files kept.files.items)
+kept_text volume files kept = lines_text volume kept.lines.items ++ (blocks_text kept.blocks.items ++ (sizes_text kept.sizes.items ++ files_text files kept.files.items))

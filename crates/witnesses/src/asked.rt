@@ -78,7 +78,8 @@ fn is_asked_in_file(reads: &[FileRead], name: &Name, p: u64) -> bool
         .any(|read| read.name == *name && asks_word(&read.pages, p))
 }
 
-fn print_file_head(name: &Name, out: &mut Bytes) -> Result<(), AllocError>
+/// Appends that of the file of a name.
+pub fn print_file_head(name: &Name, out: &mut Bytes) -> Result<(), AllocError>
     ensures { OnOk result (out.new.items ≡ out.old.items ++ file_head name.now) }
 {
     out.extend(b" | file ")?;

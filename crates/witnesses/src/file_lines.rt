@@ -1,15 +1,13 @@
 // What a cut keeps of lines of one file: as it is, as a command makes it, and as the cut leaves it.
-ghost use Rattle.std.specs.Prelude.{◌≡◌, ◌++◌, ◌<◌, ◌≤◌, ◌^◌, OnOk, map};
+ghost use Rattle.std.specs.Prelude.{◌≡◌, ◌++◌, ◌<◌, ◌≤◌, ◌^◌, OnOk, flat_map};
 ghost use Rattle.std.specs.List.{range_with_len};
 ghost use Rattle.std.specs.Option.{option_copied};
 ghost use Rattle.nvm_base.specs.Units.{units_of};
 ghost use Rattle.cut_places.specs.AskedReads.Reads.{file_reads_asked};
-ghost use Rattle.witnesses.specs.Asked.{reads_in};
-ghost use Rattle.witnesses.specs.Files.{left_at, line_kept_of, line_there};
+ghost use Rattle.witnesses.specs.Files.{line_kept_in, line_kept_of, line_there};
 
 use crate::asked::Asked;
 use crate::file_kept::FileLineKept;
-use crate::line_kept::LineLeft;
 use crate::words::{free_words, line_left};
 use cut_places::FileSeen;
 use cut_places::reads_asked::FileRead;
@@ -20,7 +18,7 @@ use std::alloc::AllocError;
 /// Lines of a page.
 const PAGE_LINES: u64 = PAGE / LINE;
 
-/// Adds those that the span touches.
+/// Adds those that the span touches and that are there.
 pub fn keep_lines(
     reads: &[FileRead],
     name: &Name,
@@ -34,13 +32,31 @@ pub fn keep_lines(
     requires few { span.len ≤ 65536 }
     requires within { span.start < 2 ^ 32 }
     ensures { OnOk result (kept.new.items ≡ kept.old.items
-        ++ map (λ n. line_kept_of (file_reads_asked reads.now) name.now n (option_copied now.entry) (option_copied made.entry) (option_copied left.entry))
+        ++ flat_map (λ n. line_kept_in (file_reads_asked reads.now) name.now n (option_copied now.entry) (option_copied made.entry) (line_there n (option_copied left.entry)))
         (range_with_len (units_of 64 span).start (units_of 64 span).len)) }
 {
     let lines = lines_of(span);
     for k in 0..lines.len {
         let number = (lines.start + k) as u32;
-        kept.push(keep_line(reads, name, number, now, made, left))?;
+        keep_if_there(reads, name, number, now, made, there(left, number), kept)?;
+    }
+    Ok(())
+}
+
+fn keep_if_there(
+    reads: &[FileRead],
+    name: &Name,
+    number: u32,
+    now: Option<&FileSeen>,
+    made: Option<&FileSeen>,
+    left: Option<&HeldLine>,
+    kept: &mut Vec<FileLineKept>,
+) -> Result<(), AllocError>
+    ensures { OnOk result (kept.new.items ≡ kept.old.items
+        ++ line_kept_in (file_reads_asked reads.now) name.now number (option_copied now.entry) (option_copied made.entry) (option_copied left.entry)) }
+{
+    if let Some(line) = left {
+        kept.push(keep_line(reads, name, number, now, made, line))?;
     }
     Ok(())
 }
@@ -51,12 +67,11 @@ fn keep_line(
     number: u32,
     now: Option<&FileSeen>,
     made: Option<&FileSeen>,
-    left: Option<&FileSeen>,
+    line: &HeldLine,
 ) -> FileLineKept
-    ensures { result ≡ line_kept_of (file_reads_asked reads.now) name.now number (option_copied now.entry) (option_copied made.entry) (option_copied left.entry) }
+    ensures { result ≡ line_kept_of (file_reads_asked reads.now) name.now number (option_copied now.entry) (option_copied made.entry) line.now }
 {
-    let asked = Asked::OfFile(reads, name);
-    let left = left_at(&asked, number, there(left, number));
+    let left = line_left(&Asked::OfFile(reads, name), u64::from(number), line);
     FileLineKept {
         name: *name,
         number,
@@ -74,14 +89,4 @@ fn there(file: Option<&FileSeen>, number: u32) -> Option<&HeldLine>
         return None;
     }
     file.line(number)
-}
-
-// As reads may find it.
-fn left_at(asked: &Asked<'_>, number: u32, line: Option<&HeldLine>) -> LineLeft
-    ensures { result ≡ left_at (reads_in asked.now) number (option_copied line.entry) }
-{
-    match line {
-        None => LineLeft::Words([0; 8]),
-        Some(line) => line_left(asked, u64::from(number), line),
-    }
 }

@@ -1,11 +1,15 @@
 use crate::block_kept::BlockKept;
 use crate::file_kept::FileLineKept;
 use crate::line_kept::LineKept;
+use crate::size_kept::SizeKept;
 
-/// What a cut leaves of all lines and blocks that a question looks at, in the order in which its reads look.
+/// What a cut leaves of all that a look's reads touch, in the order in which they read it.
 #[derive(Drop)]
 pub struct Kept {
     pub lines: Vec<LineKept>,
     pub blocks: Vec<BlockKept>,
+    /// Of each file that is read, whether it is there, and how long it is.
+    pub sizes: Vec<SizeKept>,
+    /// Those lines that are there.
     pub files: Vec<FileLineKept>,
 }

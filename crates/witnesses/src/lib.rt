@@ -1,5 +1,5 @@
-//! How a cut may leave what a question asks: which word of the volume and of files keeps which value, which line is bad, and
-//! what each block has.
+//! How a cut may leave what a look reads, where it leaves what a question asks: which word of the volume and of files keeps which value,
+//! which line is bad, what each block has, and which files are there and how long.
 #![tactic(auto)]
 
 mod asked;
@@ -16,6 +16,9 @@ mod laws;
 mod line_keeping;
 mod line_kept;
 mod line_text;
+mod size_keeping;
+mod size_kept;
+mod size_text;
 mod staying;
 mod text;
 mod words;
@@ -26,4 +29,5 @@ pub use keeping::keep;
 pub use kept::Kept;
 pub use laws::{worked_file_witnesses, worked_witnesses};
 pub use line_kept::{LineKept, LineLeft};
+pub use size_kept::SizeKept;
 pub use text::kept_text;

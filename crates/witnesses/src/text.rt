@@ -2,7 +2,7 @@
 ghost use Rattle.std.specs.Prelude.{◌≡◌, ◌++◌, IfOk, OnOk};
 ghost use Rattle.cut_places.specs.AskedReads.Asking.{files_asked, volume_asked};
 ghost use Rattle.cut_places.specs.AskedReads.Reads.{file_reads_asked, pages_asked};
-ghost use Rattle.witnesses.specs.Texts.{block_text, blocks_text, file_line_text, files_text, kept_text, line_text, lines_text, same_block, same_file_line, same_line, unless_told};
+ghost use Rattle.witnesses.specs.Texts.{block_text, blocks_text, file_line_text, files_text, kept_text, line_text, lines_text, same_block, same_file_line, same_line, same_size, size_text, sizes_text, unless_told};
 
 use crate::block_kept::BlockKept;
 use crate::block_text::print_block;
@@ -10,18 +10,21 @@ use crate::file_kept::FileLineKept;
 use crate::kept::Kept;
 use crate::line_kept::LineKept;
 use crate::line_text::{print_file_line, print_line};
+use crate::size_kept::SizeKept;
+use crate::size_text::print_size;
 use cut_places::reads_asked::{FileRead, PageRead, Question};
 use nvm_base::Bytes;
 use std::alloc::{AllocError, Global};
 
-/// Each word that the question asks about and could be otherwise, each such bad line and block, once.
-pub fn kept_text(alloc: Global, question: &Question, kept: &Kept) -> Result<Bytes, AllocError>
-    ensures { IfOk result (λ text. text.items ≡ kept_text (volume_asked question.now) (files_asked question.now) kept.now) }
+/// Each word that the reads touch and could be otherwise, each such bad line, block and file, once.
+pub fn kept_text(alloc: Global, looked: &Question, kept: &Kept) -> Result<Bytes, AllocError>
+    ensures { IfOk result (λ text. text.items ≡ kept_text (volume_asked looked.now) (files_asked looked.now) kept.now) }
 {
     let mut out = Bytes::new(alloc);
-    print_lines(&question.volume, &kept.lines, &mut out)?;
+    print_lines(&looked.volume, &kept.lines, &mut out)?;
     print_blocks(&kept.blocks, &mut out)?;
-    print_files(&question.files, &kept.files, &mut out)?;
+    print_sizes(&kept.sizes, &mut out)?;
+    print_files(&looked.files, &kept.files, &mut out)?;
     Ok(out)
 }
 
@@ -70,6 +73,25 @@ fn print_new_block(
         return Ok(());
     }
     print_block(unit, out)
+}
+
+fn print_sizes(sizes: &[SizeKept], out: &mut Bytes) -> Result<(), AllocError>
+    ensures { OnOk result (out.new.items ≡ out.old.items ++ sizes_text sizes.now) }
+{
+    for (i, size) in sizes.iter().enumerate() {
+        print_new_size(&sizes[..i], size, out)?;
+    }
+    Ok(())
+}
+
+// And such a file.
+fn print_new_size(before: &[SizeKept], size: &SizeKept, out: &mut Bytes) -> Result<(), AllocError>
+    ensures { OnOk result (out.new.items ≡ out.old.items ++ unless_told same_size size_text before.now size.now) }
+{
+    if before.iter().any(|other| other.name == size.name) {
+        return Ok(());
+    }
+    print_size(size, out)
 }
 
 fn print_files(

@@ -4,7 +4,7 @@ use Rattle.cut_places.proofs.finding.find.Goals.{in-Some+in_ok-found+else-is_som
 use Rattle.cut_places.proofs.finding.find.Goals as goal
 
 pub loop-i-init : goal.loop-i-init
-loop-i-init c = goes_first c.args.program.now c.args.done.now c.args.question.now c.args.geometry c.args.sight.now c.requires.whole c.requires.within
+loop-i-init c = goes_first c.args.program.now c.args.done.now c.args.question.now c.args.geometry c.args.sight.now c.requires.within
 
 pub step-requires-clause-program : goal.step-requires-clause-program
 step-requires-clause-program c = program_at c.args.program.now c.loop-i.i c.in-Some.command c.index-program-i.result c.loop-i-test.true (sym c.in-Some.is ∙ c.index-program-i.is) c.requires.program
@@ -21,7 +21,7 @@ loop-i-preserved c = elim c.match-line.branch [
       goes_at c.args.program.now c.args.done.now c.args.question.now c.args.geometry c.args.sight.now (c.loop-i.i + 1) w.step.new.sight c.match-line.sight w.sight-is
       (goes_on c.args.program.now c.args.done.now c.args.question.now c.args.geometry c.args.sight.now c.loop-i.i c.loop-i.sight c.loop-i.invariant c.index-program-i.result
       _ c.loop-i-test.true c.requires.told c.index-program-i.is (any_default c.args.done.now c.loop-i.i false (below c.args.program.now c.args.done.now c.loop-i.i c.requires.told c.loop-i-test.true)) w.in-Some.command w.in-Some.is w.step.new.sight w.in_ok-found.found (sym (w.if-is_some.ensures))
-      w.in_ok-found.ensures.whole w.in_ok-found.ensures.within w.in_ok-found.ensures.explores)
+      w.in_ok-found.ensures.whole w.in_ok-found.ensures.enough w.in_ok-found.ensures.within w.in_ok-found.ensures.explores)
   | in_default w ↦
       goes_at c.args.program.now c.args.done.now c.args.question.now c.args.geometry c.args.sight.now (c.loop-i.i + 1) c.loop-i.sight c.match-line.sight w.sight-is
       (goes_past c.args.program.now c.args.done.now c.args.question.now c.args.geometry c.args.sight.now c.loop-i.i c.loop-i.sight c.loop-i.invariant c.index-program-i.result

@@ -1,29 +1,39 @@
 use Rattle.std.proofs.Common.{◌≡◌, ◌||◌, sym, ap, ◌∙◌, subst, arith, slice_get, Some}
 use Rattle.std.proofs.lemmas.Result.{err_from_is_err_and}
 use Rattle.explore_program.specs.Telling.{is_missed}
-use Rattle.explore_program.proofs.AnswerLemmas.{answered_none, asked_at, goes_more, goes_through, goes_unfound, goes_untold}
+use Rattle.outcome_lists.specs.AskedReads.Asking.{IsLook, may_be_replies}
+use Rattle.outcome_lists.specs.Explorer.Tabulating.{looked}
+use Rattle.program_base.specs.Opening.{opened}
+use Rattle.explore_program.proofs.AnswerLemmas.{answered_none, asked_at, goes_more, goes_through, goes_unfound, goes_untold, looked_asks, looked_replies, spelled_by}
 use Rattle.explore_program.proofs.answering.answer_all.Goals.{then-missed, else-missed}
 use Rattle.explore_program.proofs.answering.answer_all.Goals as goal
 
 pub loop-asking-init : goal.loop-asking-init
-loop-asking-init g c = record { later = omega arith; device = record { setups = omega arith; faults = omega arith; cuts = omega arith }; answered = λ asked ask. answered_none _ asked (g.K.Sink.written c.args.answers.now) }
+loop-asking-init g c = record { later = omega arith; device = record { setups = omega arith; faults = omega arith; cuts = omega arith }; answered = λ asked ask under. answered_none _ _ _ asked (g.K.Sink.written c.args.answers.now) }
+
+pub find-requires-clause-replies : goal.find-requires-clause-replies
+find-requires-clause-replies g c = looked_replies c.requires.sizes c.in_ok-looked.ensures
 
 pub returns-in_err-found : goal.returns-in_err-found
-returns-in_err-found g c asked ask =
+returns-in_err-found g c asked ask under =
     let p = err_from_is_err_and c.from_residual.result c.from_residual.ensures.1 in
     let at = subst (λ questions. slice_get questions c.loop-asking.asking-index ≡ Some c.asking-item.result) c.deref-asking-items.ensures.value
     (asked_at c.deref-asking-items.result.now c.loop-asking.asking-index c.asking-item.result c.loop-asking-test.true c.asking-item.is) in
-    rw (p.1, p.2) (goes_unfound _ c.args.exploration.now.questions.items c.loop-asking.asking-index c.asking-item.result c.loop-asking.missed _ _ (g.K.Sink.written c.loop-asking.answers) _ _ (g.K.Sink.count c.loop-asking.answers) _ _ (g.D.Lines.state c.find.new.device).panel at
-    c.loop-asking.invariant c.in_err-found.field-0.0 c.in_err-found.ensures.cause asked ask)
+    rw (p.1, p.2) (goes_unfound (opened c.args.image.now.lines.items).geometry c.args.exploration.now.reads.items _ c.args.exploration.now.questions.items c.loop-asking.asking-index c.asking-item.result c.loop-asking.missed _ _ (g.K.Sink.written c.loop-asking.answers) _ _ (g.K.Sink.count c.loop-asking.answers) _ _ (g.D.Lines.state c.find.new.device).panel at
+    c.loop-asking.invariant c.in_err-found.field-0.0 c.in_err-found.ensures.cause asked ask under)
 
 pub returns-in_err-tell : goal.returns-in_err-tell
-returns-in_err-tell g c asked ask =
+returns-in_err-tell g c asked ask under =
     let p = err_from_is_err_and c.from_residual-in_err-tell.result c.from_residual-in_err-tell.ensures.1 in
     let at = subst (λ questions. slice_get questions c.loop-asking.asking-index ≡ Some c.asking-item.result) c.deref-asking-items.ensures.value
     (asked_at c.deref-asking-items.result.now c.loop-asking.asking-index c.asking-item.result c.loop-asking-test.true c.asking-item.is) in
-    rw (p.1, p.2) (goes_untold _ c.args.exploration.now.questions.items c.loop-asking.asking-index c.asking-item.result c.loop-asking.missed _ _ _ _ _ _ _ _ (g.D.Lines.state c.find.new.device).panel at
-    c.loop-asking.invariant c.in_err-tell.field-0.0 c.in_ok-found.found c.answer_line.result c.tell.result c.in_ok-found.ensures.found
-    c.answer_line.ensures c.tell.ensures.bytes c.in_err-tell.ensures.cause asked ask)
+    let geo = (opened c.args.image.now.lines.items).geometry in
+    let all = looked geo c.args.exploration.now.reads.items in
+    let asks : IsLook all c.in_ok-looked.looked = looked_asks c.requires.sizes c.in_ok-looked.ensures in
+    let finds = λ look is under. c.in_ok-found.ensures.found look all is asks under in
+    rw (p.1, p.2) (goes_untold (opened c.args.image.now.lines.items).geometry c.args.exploration.now.reads.items _ c.args.exploration.now.questions.items c.loop-asking.asking-index c.asking-item.result c.loop-asking.missed _ _ _ _ _ _ _ _ (g.D.Lines.state c.find.new.device).panel at
+    c.loop-asking.invariant c.in_err-tell.field-0.0 c.in_ok-found.found c.answer_line.result c.tell.result finds
+    (spelled_by _ _ _ c.answer_line.result asks c.answer_line.ensures) c.tell.ensures.bytes c.in_err-tell.ensures.cause asked ask under)
 
 pub loop-asking-preserved : goal.loop-asking-preserved
 loop-asking-preserved g c =
@@ -33,9 +43,13 @@ loop-asking-preserved g c =
       | then-missed w ↦ w.missed-is ∙ w.if-missed.true ∙ sym (ap (λ b. b || is_missed c.asking-item.result.wanted c.in_ok-found.found) w.if-missed.true)
       | else-missed w ↦ w.missed-is ∙ w.is_missed-missed.ensures ∙ sym (ap (λ b. b || is_missed c.asking-item.result.wanted c.in_ok-found.found) w.if-missed.false)
     ] in
-    goes_more _ c.args.exploration.now.questions.items c.loop-asking.asking-index c.asking-item.result c.loop-asking.missed _ _ _ _ _ _ _ _ (g.D.Lines.state c.find.new.device).panel at
+    let geo = (opened c.args.image.now.lines.items).geometry in
+    let all = looked geo c.args.exploration.now.reads.items in
+    let asks : IsLook all c.in_ok-looked.looked = looked_asks c.requires.sizes c.in_ok-looked.ensures in
+    let finds = λ look is under. c.in_ok-found.ensures.found look all is asks under in
+    goes_more (opened c.args.image.now.lines.items).geometry c.args.exploration.now.reads.items _ c.args.exploration.now.questions.items c.loop-asking.asking-index c.asking-item.result c.loop-asking.missed _ _ _ _ _ _ _ _ (g.D.Lines.state c.find.new.device).panel at
     c.loop-asking.invariant c.in_ok-found.found c.if-missed.missed c.answer_line.result c.tell.result c.in_ok-tell.field-0
-    c.in_ok-found.ensures.found c.in_ok-found.ensures.counts c.answer_line.ensures c.tell.ensures.bytes c.in_ok-tell.was c.tell.ensures.later says
+    finds c.in_ok-found.ensures.counts (spelled_by _ _ _ c.answer_line.result asks c.answer_line.ensures) c.tell.ensures.bytes c.in_ok-tell.was c.tell.ensures.later says
 
 pub returns : goal.returns
-returns g c asked ask = goes_through _ c.args.exploration.now.questions.items c.loop-asking.asking-index c.loop-asking.missed _ _ _ _ _ _ (omega (arith, c.loop-asking-test.false, c.deref-asking-items.ensures.len)) c.loop-asking.invariant asked ask
+returns g c asked ask under = goes_through (opened c.args.image.now.lines.items).geometry c.args.exploration.now.reads.items _ c.args.exploration.now.questions.items c.loop-asking.asking-index c.loop-asking.missed _ _ _ _ _ _ (omega (arith, c.loop-asking-test.false, c.deref-asking-items.ensures.len)) c.loop-asking.invariant asked ask under

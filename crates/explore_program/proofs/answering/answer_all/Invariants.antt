@@ -6,5 +6,5 @@ use Rattle.explore_program.proofs.AnswerLemmas.{Goes}
 use Rattle.explore_program.proofs.answering.answer_all.Given as goal
 
 abbrev pub invariant-loop-asking : goal.invariant-loop-asking
-invariant-loop-asking g l = Goes (found_stop (begun_at (opened l.image.lines.items) (inputs_of_lines l.exploration.first.items)) (inputs_of_lines l.exploration.program.items)) l.exploration.questions.items l.asking-index l.missed
+invariant-loop-asking g l = Goes (opened l.image.lines.items).geometry l.exploration.reads.items (found_stop (begun_at (opened l.image.lines.items) (inputs_of_lines l.exploration.first.items)) (inputs_of_lines l.exploration.program.items)) l.exploration.questions.items l.asking-index l.missed
     (g.K.Sink.written l.fn.answers) (g.K.Sink.written l.answers) (g.K.Sink.count l.fn.answers) (g.K.Sink.count l.answers) (g.D.Lines.state l.fn.device).panel (g.D.Lines.state l.device).panel

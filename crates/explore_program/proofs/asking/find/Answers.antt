@@ -1,5 +1,7 @@
-use Rattle.std.proofs.Common.{subst}
+use Rattle.std.proofs.Common.{◌≡◌, true, subst, sym}
 use Rattle.std.proofs.lemmas.Result.{err_from_is_err_and}
+use Rattle.word_tables.specs.declared.geometry.Geometry.{Geometry}
+use Rattle.outcome_lists.specs.AskedReads.Asking.{may_be_replies}
 use Rattle.outcome_lists.specs.AskedReads.Program.{inputs_of_lines}
 use Rattle.outcome_lists.specs.CutPlaces.Places.{found_stop}
 use Rattle.outcome_lists.specs.Explorer.Finding.{IsFound}
@@ -19,13 +21,16 @@ returns-in_err-explore-clause-cause g c counted counts =
     rw (p.1, p.2) (unanswered_later (of_explore c.in_err-explore.field-0.0) counted counts old begun new c.in_ok-host.ensures.counts
     (explore_unanswered c.in_err-explore.field-0.0 counted counts begun new (c.in_err-explore.ensures.cause (opened c.args.image.now.lines.items) c.in_ok-host.ensures.stands c.in_ok-host.ensures.begins)))
 
+pub explore-requires-clause-replies : goal.explore-requires-clause-replies
+explore-requires-clause-replies g c = subst (λ (geo : Geometry). may_be_replies geo c.args.looked.now ≡ true) (sym c.in_ok-host.ensures.stands.geometry) c.requires.replies
+
 pub returns-clause-counts : goal.returns-clause-counts
 returns-clause-counts g c =
     fell_on (g.D.Lines.state c.args.device.now).panel (g.D.Lines.state c.begin.new.device).panel (g.D.Lines.state c.explore.new.device).panel c.in_ok-host.ensures.counts c.in_ok-explore.ensures.counts
 
 pub returns-clause-found : goal.returns-clause-found
-returns-clause-found g c look is =
+returns-clause-found g c look all is are under =
     let lines = c.args.image.now.lines.items in
-    subst (λ p. IsFound look (found_stop (led_through (armed (opened lines)) (inputs_of_lines c.args.exploration.now.first.items)) (inputs_of_lines p) look) c.in_ok-explore.field-0) c.deref-2.ensures.value
-    (subst (λ f. IsFound look (found_stop (led_through (armed (opened lines)) (inputs_of_lines f)) (inputs_of_lines c.deref-2.result.now) look) c.in_ok-explore.field-0) c.deref.ensures.value
-    (c.in_ok-explore.ensures.found (opened lines) look c.in_ok-host.ensures.stands c.in_ok-host.ensures.begins is))
+    subst (λ p. IsFound all look (found_stop (led_through (armed (opened lines)) (inputs_of_lines c.args.exploration.now.first.items)) (inputs_of_lines p) look) c.in_ok-explore.field-0) c.deref-2.ensures.value
+    (subst (λ f. IsFound all look (found_stop (led_through (armed (opened lines)) (inputs_of_lines f)) (inputs_of_lines c.deref-2.result.now) look) c.in_ok-explore.field-0) c.deref.ensures.value
+    (c.in_ok-explore.ensures.found (opened lines) look all c.in_ok-host.ensures.stands c.in_ok-host.ensures.begins is are under))

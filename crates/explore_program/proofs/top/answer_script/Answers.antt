@@ -2,6 +2,7 @@ use Rattle.std.proofs.Common.{◌≡◌, ◌||◌, ◌++◌, [], Ok, Err, inr, r
 use Rattle.std.proofs.lemmas.Result.{err_from_is_err_and}
 use Rattle.exploration.specs.Exploration.{script_of}
 use Rattle.exploration.specs.Reading.{ReadsScript}
+use Rattle.outcome_lists.specs.Explorer.Tabulating.{looked}
 use Rattle.program_base.specs.Opening.{opened}
 use Rattle.program_base.specs.World.{world}
 use Rattle.explore_program.proofs.BeginLemmas.{mounted_sizes, mounted_valid}
@@ -33,6 +34,12 @@ returns-in_err-exploration g c =
     (subst (λ script. ReadsScript (script_of (opened c.in_ok-image.image.lines.items).geometry script) (Err c.in_err-exploration.field-0.0)) c.as_slice.ensures
     (subst (λ geo. ReadsScript (script_of geo c.as_slice.result.now) (Err c.in_err-exploration.field-0.0)) (c.geometry.ensures ∙ mounted_sizes c.in_ok-image.image.lines.items c.in_ok-host.host _ _ c.in_ok-host.ensures.mounts) c.in_err-exploration.ensures.script)) refl))
 
+pub answer_all-requires-clause-sizes : goal.answer_all-requires-clause-sizes
+answer_all-requires-clause-sizes g c = sym (c.geometry-geometry.ensures ∙ mounted_sizes c.in_ok-image.image.lines.items c.in_ok-host.host _ _ c.in_ok-host.ensures.mounts)
+
+pub answer_all-requires-clause-valid : goal.answer_all-requires-clause-valid
+answer_all-requires-clause-valid g c = rw c.geometry-geometry.ensures (mounted_valid c.in_ok-image.image.lines.items c.in_ok-host.host _ _ c.in_ok-host.ensures.mounts)
+
 pub report-requires-clause-first_marks : goal.report-requires-clause-first_marks
 report-requires-clause-first_marks g c = omega (arith, c.in_ok-exploration.ensures.first_len, c.in_ok-exploration.ensures.refused_len)
 
@@ -58,7 +65,7 @@ returns-in_err-refused g c =
     (subst (λ geo. ReadsScript (script_of geo c.as_slice.result.now) (Ok x)) (c.geometry.ensures ∙ mounted_sizes lines c.in_ok-host.host _ _ c.in_ok-host.ensures.mounts) asks.script))
     (record { program = asks.first; bounds = asks.first_bounds }) (record { program = asks.program; bounds = asks.bounds })
     (λ e is first program. c.answers_are_theorems.ensures lines (opened lines).geometry c.in_ok-text.text.items e mountable is first program)
-    refl (λ asked ask. no_shown _ _ _ asked c.in_err-refused.field-0.0 _ _ _ _ _ _ c.in_err-refused.ensures.tells))
+    refl (λ asked ask under. no_shown _ _ _ _ asked c.in_err-refused.field-0.0 _ _ _ _ _ _ c.in_err-refused.ensures.tells))
 
 pub returns-in_err-show : goal.returns-in_err-show
 returns-in_err-show g c =
@@ -80,11 +87,11 @@ returns-in_err-show g c =
     (record { program = asks.first; bounds = asks.first_bounds }) (record { program = asks.program; bounds = asks.bounds })
     (λ e is first program. c.answers_are_theorems.ensures lines (opened lines).geometry c.in_ok-text.text.items e mountable is first program)
     c.in_ok-refused.ensures.is
-    (λ asked ask. subst (λ front. AnswersAll front (read_found (opened lines) x) asked (Err c.in_err-show.field-0.0) old.written new.written old.writes new.writes (g.D.Lines.state c.start.new.device).panel new.device.panel)
+    (λ asked ask under. subst (λ front. AnswersAll (looked (opened lines).geometry x.reads.items) front (read_found (opened lines) x) asked (Err c.in_err-show.field-0.0) old.written new.written old.writes new.writes (g.D.Lines.state c.start.new.device).panel new.device.panel)
     (ap (λ t. read_refused (opened lines) x ++ t) (append-nil (read_shown (opened lines) x)))
-    (behind_shown (read_refused (opened lines) x) (read_shown (opened lines) x ++ []) (read_found (opened lines) x) asked (Err c.in_err-show.field-0.0) old.written (g.K.Sink.written c.report.new.answers) new.written old.writes (g.K.Sink.count c.report.new.answers) new.writes (g.D.Lines.state c.start.new.device).panel (g.D.Lines.state c.report.new.device).panel new.device.panel
+    (behind_shown (read_refused (opened lines) x) (read_shown (opened lines) x ++ []) (looked (opened lines).geometry x.reads.items) (read_found (opened lines) x) asked (Err c.in_err-show.field-0.0) old.written (g.K.Sink.written c.report.new.answers) new.written old.writes (g.K.Sink.count c.report.new.answers) new.writes (g.D.Lines.state c.start.new.device).panel (g.D.Lines.state c.report.new.device).panel new.device.panel
     c.in_ok-refused.ensures.tells c.report.ensures.later c.in_ok-refused.ensures.counts
-    (no_shown (read_shown (opened lines) x) [] _ asked c.in_err-show.field-0.0 _ _ _ _ _ _ c.in_err-show.ensures.tells))))
+    (no_shown (read_shown (opened lines) x) [] _ _ asked c.in_err-show.field-0.0 _ _ _ _ _ _ c.in_err-show.ensures.tells))))
 
 pub returns-in_err-missed : goal.returns-in_err-missed
 returns-in_err-missed g c =
@@ -106,10 +113,10 @@ returns-in_err-missed g c =
     (record { program = asks.first; bounds = asks.first_bounds }) (record { program = asks.program; bounds = asks.bounds })
     (λ e is first program. c.answers_are_theorems.ensures lines (opened lines).geometry c.in_ok-text.text.items e mountable is first program)
     c.in_ok-refused.ensures.is
-    (λ asked ask. behind_shown (read_refused (opened lines) x) (read_shown (opened lines) x) (read_found (opened lines) x) asked (Err c.in_err-missed.field-0.0) old.written (g.K.Sink.written c.report.new.answers) new.written old.writes (g.K.Sink.count c.report.new.answers) new.writes (g.D.Lines.state c.start.new.device).panel (g.D.Lines.state c.report.new.device).panel new.device.panel
+    (λ asked ask under. behind_shown (read_refused (opened lines) x) (read_shown (opened lines) x) (looked (opened lines).geometry x.reads.items) (read_found (opened lines) x) asked (Err c.in_err-missed.field-0.0) old.written (g.K.Sink.written c.report.new.answers) new.written old.writes (g.K.Sink.count c.report.new.answers) new.writes (g.D.Lines.state c.start.new.device).panel (g.D.Lines.state c.report.new.device).panel new.device.panel
     c.in_ok-refused.ensures.tells c.report.ensures.later c.in_ok-refused.ensures.counts
-    (behind_first (read_shown (opened lines) x) (read_found (opened lines) x) asked (Err c.in_err-missed.field-0.0) (g.K.Sink.written c.report.new.answers) (g.K.Sink.written c.show.new.answers) new.written (g.K.Sink.count c.report.new.answers) (g.K.Sink.count c.show.new.answers) new.writes (g.D.Lines.state c.report.new.device).panel (g.D.Lines.state c.show.new.device).panel new.device.panel
-    c.in_ok-show.ensures.tells c.show.ensures.later c.in_ok-show.ensures.counts (c.in_err-missed.ensures asked ask))))
+    (behind_first (read_shown (opened lines) x) (looked (opened lines).geometry x.reads.items) (read_found (opened lines) x) asked (Err c.in_err-missed.field-0.0) (g.K.Sink.written c.report.new.answers) (g.K.Sink.written c.show.new.answers) new.written (g.K.Sink.count c.report.new.answers) (g.K.Sink.count c.show.new.answers) new.writes (g.D.Lines.state c.report.new.device).panel (g.D.Lines.state c.show.new.device).panel new.device.panel
+    c.in_ok-show.ensures.tells c.show.ensures.later c.in_ok-show.ensures.counts (c.in_err-missed.ensures asked ask under))))
 
 pub returns : goal.returns
 returns g c =
@@ -134,7 +141,7 @@ returns g c =
     (record { program = asks.first; bounds = asks.first_bounds }) (record { program = asks.program; bounds = asks.bounds })
     (λ e is first program. c.answers_are_theorems.ensures lines (opened lines).geometry c.in_ok-text.text.items e mountable is first program)
     c.in_ok-refused.ensures.is
-    (λ asked ask. behind_shown (read_refused (opened lines) x) (read_shown (opened lines) x) (read_found (opened lines) x) asked (Ok c.in_ok-missed.missed) old.written (g.K.Sink.written c.report.new.answers) new.written old.writes (g.K.Sink.count c.report.new.answers) new.writes (g.D.Lines.state c.start.new.device).panel (g.D.Lines.state c.report.new.device).panel new.device.panel
+    (λ asked ask under. behind_shown (read_refused (opened lines) x) (read_shown (opened lines) x) (looked (opened lines).geometry x.reads.items) (read_found (opened lines) x) asked (Ok c.in_ok-missed.missed) old.written (g.K.Sink.written c.report.new.answers) new.written old.writes (g.K.Sink.count c.report.new.answers) new.writes (g.D.Lines.state c.start.new.device).panel (g.D.Lines.state c.report.new.device).panel new.device.panel
     c.in_ok-refused.ensures.tells c.report.ensures.later c.in_ok-refused.ensures.counts
-    (behind_first (read_shown (opened lines) x) (read_found (opened lines) x) asked (Ok c.in_ok-missed.missed) (g.K.Sink.written c.report.new.answers) (g.K.Sink.written c.show.new.answers) new.written (g.K.Sink.count c.report.new.answers) (g.K.Sink.count c.show.new.answers) new.writes (g.D.Lines.state c.report.new.device).panel (g.D.Lines.state c.show.new.device).panel new.device.panel
-    c.in_ok-show.ensures.tells c.show.ensures.later c.in_ok-show.ensures.counts (c.in_ok-missed.ensures asked ask))))
+    (behind_first (read_shown (opened lines) x) (looked (opened lines).geometry x.reads.items) (read_found (opened lines) x) asked (Ok c.in_ok-missed.missed) (g.K.Sink.written c.report.new.answers) (g.K.Sink.written c.show.new.answers) new.written (g.K.Sink.count c.report.new.answers) (g.K.Sink.count c.show.new.answers) new.writes (g.D.Lines.state c.report.new.device).panel (g.D.Lines.state c.show.new.device).panel new.device.panel
+    c.in_ok-show.ensures.tells c.show.ensures.later c.in_ok-show.ensures.counts (c.in_ok-missed.ensures asked ask under))))

@@ -13,17 +13,17 @@ use Rattle.explorer.proofs.SoundLemmas.{begins_sound}
 use Rattle.explorer.proofs.exploring.explore.Goals as goal
 
 pub returns-then-not-may_be_replies-clause-found : goal.returns-then-not-may_be_replies-clause-found
-returns-then-not-may_be_replies-clause-found g c = λ h look stands begins is.
+returns-then-not-may_be_replies-clause-found g c = λ h look all stands begins is are under.
     let none = sym (ap (λ geo. may_be_replies geo c.args.question.now) (c.geometry-geometry.ensures ∙ stands.geometry)) ∙ sym (c.if-not-may_be_replies.ensures) in
     let to = led_through (armed h) (inputs_of_lines c.args.first.now) in
-    nothing_found look (cut_places 1 (armed to) (inputs_of_lines c.args.program.now))
+    nothing_found all look (cut_places 1 (armed to) (inputs_of_lines c.args.program.now))
     (sym (found_nowhere look c.args.question.now is h none 1 (armed to) (inputs_of_lines c.args.program.now) (geometry_led (armed h) (inputs_of_lines c.args.first.now) c.requires.first)))
 
 pub returns-clause-found : goal.returns-clause-found
-returns-clause-found g c = λ h look stands begins is.
+returns-clause-found g c = λ h look all stands begins is are under.
     let first = inputs_of_lines c.args.first.now in
     let to = led_through (armed h) first in
     let follows = c.in_ok-watched.ensures.follows h stands begins in
     let sound = sound_led (armed h) first c.requires.first (ready_armed h begins.ready) (begins_sound h begins) in
-    found_armed look (inputs_of_lines c.args.program.now) to c.in_ok-found.found (armed_led h first c.requires.first)
-    (c.in_ok-found.ensures to look (subst (λ geo. Follows c.in_ok-watched.watched.sight geo to) (sym c.geometry-geometry.ensures) follows.0) follows.1 sound is)
+    found_armed all look (inputs_of_lines c.args.program.now) to c.in_ok-found.found (armed_led h first c.requires.first)
+    (c.in_ok-found.ensures to look all (subst (λ geo. Follows c.in_ok-watched.watched.sight geo to) (sym c.geometry-geometry.ensures) follows.0) follows.1 sound is are under)

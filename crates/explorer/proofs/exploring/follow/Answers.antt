@@ -4,21 +4,19 @@ use Rattle.std.specs.Option.{option_copied}
 use Rattle.script_text.specs.Action.{action_of}
 use Rattle.cut_places.specs.AskedReads.Program.{inputs_of_lines}
 use Rattle.cut_places.specs.declared.place.CutPlace.{CutPlace}
-use Rattle.cut_places.specs.Following.{AreDone, IsFirst, ShowsAt}
+use Rattle.cut_places.specs.Following.{AreDone, IsFirst}
 use Rattle.cut_places.specs.Places.{cut_places}
-use Rattle.std.specs.Prelude.{IfSome}
-use Rattle.explorer.proofs.KeptLemmas.{found_kept}
+use Rattle.explorer.proofs.KeptLemmas.{enough_for, found_kept}
 use Rattle.explorer.proofs.exploring.follow.Goals as goal
 
 pub returns : goal.returns
-returns c = λ h look follows done sound is.
+returns c = λ h look all follows done sound is are under.
     let program = c.args.program.now in
-    let q = c.args.question.now in
     let now = c.find.new.sight in
     let geo = c.args.geometry in
     let first = subst (λ (o : Option CutPlace). IsFirst program look now geo (cut_places 1 h (inputs_of_lines program)) o) c.in-Some.is
-    (c.in_ok-place.ensures.first h look follows (subst (λ (ds : List Bool). AreDone h program ds) (sym c.deref.ensures.value) done) is) in
-    let shown = subst (λ (o : Option CutPlace). IfSome o (ShowsAt program q now geo)) c.in-Some.is c.in_ok-place.ensures.shown in
-    found_kept program q now geo look c.in-Some.place c.in_ok-kept.kept (option_map action_of (option_copied c.command_at-inside.result)) h c.requires.program follows.ready sound first is
-    c.in_ok-place.ensures.whole c.in_ok-place.ensures.within c.requires.replies c.command_at-inside.ensures.action shown
-    c.in_ok-kept.ensures.lines c.in_ok-kept.ensures.blocks c.in_ok-kept.ensures.files (λ m at reached. c.in_ok-kept.ensures.kept m look at is reached)
+    (c.in_ok-place.ensures.first h look follows (enough_for h c.args.question.now c.args.looked.now c.args.watched.sight geo look all follows sound is are c.requires.whole c.requires.within under) (subst (λ (ds : List Bool). AreDone h program ds) (sym c.deref.ensures.value) done) is) in
+    found_kept program c.args.question.now c.args.looked.now now geo look all c.in-Some.place c.in_ok-kept.kept (option_map action_of (option_copied c.command_at-inside.result)) h c.requires.program follows.ready sound first is are
+    (c.in_ok-place.ensures.whole c.args.looked.now c.requires.whole) c.in_ok-place.ensures.within under c.command_at-inside.ensures.action
+    c.in_ok-kept.ensures.lines c.in_ok-kept.ensures.blocks c.in_ok-kept.ensures.sizes c.in_ok-kept.ensures.files
+    (λ m at reached looks shows. c.in_ok-kept.ensures.kept m look at is reached looks shows)
