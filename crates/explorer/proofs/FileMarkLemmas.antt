@@ -173,7 +173,7 @@ module _ (inside : Option Action) (reads : List FileRead) (now : FilesState) (of
       (have_cells (file_left off name (8 * n + w)) (words name (8 * n + w)))
       ∙ ap (λ k. nat_lt 1 (side_count k (file_left off name (8 * n + w)))) (sym place))
 
-  -- the words of each line that is there are marked so
+  -- the words of each line that exists are marked so
   one_marked : (r : FileRead) (n : ℕ) → is_held now.numbers n ≡ true → (o : Option Cell) → line_there n (found_in (left_there inside reads now) r.name) ≡ o
       → map (λ (k : FileLineKept). k.free) (kept_in r n o) ≡ map (file_line_choices off) (places_of (kept_in r n o))
   one_marked r n own None there = refl

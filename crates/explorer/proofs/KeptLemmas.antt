@@ -188,7 +188,7 @@ module _ (h : Machine) (q looked : Question) (inside : Option Action) (now : Sig
   abbrev asked : List FileRead
   asked = files_asked q
 
-  -- a line of a file that is there
+  -- a line of a file that exists
   line_has : (name : List ℕ) (n : ℕ) (line : Cell) → is_held now.files.numbers n ≡ true → line_there n (file_of name_seen name (left_there inside asked now.files).files) ≡ Some line → HasEach line
   line_has name n line own there =
       let at : 8 * n / 8 ≡ n = omega arith in

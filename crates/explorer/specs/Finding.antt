@@ -20,7 +20,7 @@ use Rattle.explorer.specs.Choosing.{file_line_choices, has_choice, line_choices,
 use Rattle.explorer.specs.declared.found.Found.{Found}
 
 -- What is kept where the power goes in this state: each line, block and file that all the look's reads touch, in their order, and of a file
--- those lines that are there. The state may show all of them so behind what is asked, and of each it is said whether it has a choice.
+-- those lines that exist. The state may show all of them so after what is asked, and of each it is said whether it has a choice.
 pub record IsKept (all look : List Seen) (off : Machine) (kept : Kept) : Type 0 where
   pub shown : may_show (look ++ told kept) off ≡ true
   pub lines : numbers_of_lines kept.lines.items ≡ all_lines_read (volume_reads all)

@@ -94,7 +94,7 @@ module _ (asked : List FileRead) (now made left : FilesState) where
   names_kept [] = refl
   names_kept (r ∷ looked) = ap (λ names. r.name ∷ names) (names_kept looked)
 
-  -- each line at which a read looks and that is there is kept
+  -- each line at which a read looks and that exists is kept
   module _ (looked : List FileRead) (numbers : List ℕ) (held : are_held numbers looked ≡ true) (have : AllHaveLines numbers left.files) where
     abbrev sizes : List SizeKept
     sizes = map (size_read now made left) looked
@@ -102,7 +102,7 @@ module _ (asked : List FileRead) (now made left : FilesState) where
     abbrev kept_one : FileRead → ℕ → Option Cell → List FileLineKept
     kept_one r n o = line_kept_in asked r.name n (file_of name_seen r.name now.files) (file_of name_seen r.name made.files) o
 
-    -- whether it is there, by the lengths that are kept
+    -- whether it exists, by the lengths that are kept
     by_sizes : (name : List ℕ) (n : ℕ) (some : List FileRead) (b : Bool) → is_before_end n (pages_of left name) ≡ b
         → (list_any (λ (r : FileRead). bytes_eq r.name name) some ≡ true → has_line (map (size_read now made left) some) (spot name n) ≡ b)
     by_sizes name n [] b is any = cc any

@@ -1,4 +1,4 @@
--- What is told of files and their lines: the reads of it, and which lines they look at.
+-- What is reported of files and their lines: the reads of it, and which lines they look at.
 use Rattle.std.proofs.Common.{◌≡◌, ℕ, ◌+◌, ◌-◌, ◌*◌, ◌/◌, ◌≤◌, ◌==◌, ◌||◌, nat_lt, Bool, true, false, cond, Option, Some, None, ◌⊎◌, inl, inr, List, [], ◌∷◌, ◌++◌, filter, find, flat_map, map, slice_index_or, refl, sym, ap, subst, ◌∙◌, arith}
 use Rattle.std.specs.List.{list_all, list_any}
 use Rattle.std.specs.Str.{bytes_eq}
@@ -57,7 +57,7 @@ line_found f (line ∷ lines) n are held = by_number (line.number == n) refl hel
     by_number true is some rest = ap Some (are.0 ∙ ap f (eqb-true line.number n is))
     by_number false is some rest = rest some
 
--- the lines that a read looks at are those of a storage of so many pages that answers it so
+-- the lines that a read looks at are those of a storage of that number of pages that answers it so
 module _ (pages start len : ℕ) (reply : PageReply) (given : (why : Why) → is_refused_for why reply ≡ true → ⊥) (is : is_reply (4096 * pages) (record { start = start; len = len; reply = reply }) ≡ true) where
   answered : (start + len ≤ 4096 * pages) × (1 ≤ len)
   answered = by_range (nat_lt (4096 * pages) (start + len)) refl is
@@ -86,7 +86,7 @@ lines_within pages r is = by_reply r.reply is
     by_reply (Poison at) told = touched_within pages r.start r.len (Poison at) (λ why refused. cc refused) told
     by_reply (Refuses why) told = refl
 
--- a read that is told of no such file looks at no line
+-- a read that is reported of no such file looks at no line
 none_looked : (start len : ℕ) (reply : PageReply) → is_refused_for because.Missing reply ≡ true → lines_read start len reply ≡ []
 none_looked start len (Shows bytes) told = cc told
 none_looked start len (Poison at) told = cc told
@@ -151,7 +151,7 @@ module _ (asked : List FileRead) (files : List FileState) where
   abbrev found_in : List ℕ → Option FileState
   found_in name = file_of name_seen name files
 
-  -- line n of the file of a name, told as it is left, if it is there; and all such lines at which reads look
+  -- line n of the file of a name, reported as it is left, if it exists; and all such lines at which reads look
   abbrev pub there_told : List ℕ → ℕ → Option Cell → List FileRead
   there_told name n None = []
   there_told name n (Some line) = record { name = name; pages = told_as (λ m. m) (reads_of name asked) (λ m. line) n } ∷ []

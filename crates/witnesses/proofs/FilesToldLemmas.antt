@@ -1,4 +1,4 @@
--- What is told of files and their lines: files that fit a question fit what is told of them with it.
+-- What is reported of files and their lines: files that fit a question fit what is reported of them with it.
 use Rattle.std.proofs.Common.{◌≡◌, ℕ, ◌+◌, ◌-◌, ◌*◌, ◌/◌, ◌<◌, ◌==◌, ◌&&◌, nat_lt, Bool, true, false, cond, not, Option, Some, None, ◌⊎◌, inl, inr, List, [], ◌∷◌, ◌++◌, filter, map, refl, sym, ap, subst, ◌∙◌, arith, append_assoc}
 use Rattle.std.specs.List.{list_all}
 use Rattle.std.specs.Str.{bytes_eq}
@@ -59,7 +59,7 @@ module _ (asked looked : List FileRead) (numbers : List ℕ) (files : List FileS
     abbrev rs : List PageRead
     rs = reads_of name asked
 
-    -- the lines of it that are told
+    -- the lines of it that are reported
     abbrev ns : List ℕ
     ns = filter (λ n. nat_lt (n / 64) x.pages) (all_lines_read (reads_of name looked))
 
@@ -113,7 +113,7 @@ module _ (asked looked : List FileRead) (numbers : List ℕ) (files : List FileS
             and_from (is_reply (4096 * x.pages) r.pages) (list_all (is_reply (4096 * x.pages)) (reads_of name reads)) (replied r (each r (inl refl)) ((bytes_eq-Decides r.name name).0 same)) rest
         by_name false other rest = rest
 
-    -- a line that is there fits the question
+    -- a line that exists fits the question
     there_fits : (n : ℕ) → is_held numbers n ≡ true → nat_lt (n / 64) x.pages ≡ true → cell_fits rs n (f n) ≡ true
     there_fits n own page = by_asked (among_or_not n (all_lines_read rs))
       where
@@ -152,7 +152,7 @@ module _ (asked looked : List FileRead) (numbers : List ℕ) (files : List FileS
           (sym (lines_same (λ n. cell_fits (reads_of name both) n (f n)) (now_fits both name x.pages) x.lines (agree both) (4096 * x.pages) r.pages (replied r is same) (lines_held r is same))
           ∙ all_from (λ n. cell_fits (reads_of name both) n (f n)) (lines_of_read r.pages) (λ n among. whole n (told_here r is same n among)))
 
-    -- what is told of a line that is there
+    -- what is reported of a line that exists
     page_fits : (n : ℕ) → IsAmong n (all_lines_read (reads_of name looked)) → (b : Bool) → nat_lt (n / 64) x.pages ≡ b
         → list_all (λ (r : FileRead). read_passes (now_fits both name) r.pages (Some x)) (there_told asked files name n (cond b (line_held n x.lines) None)) ≡ true
     page_fits n among false past = refl
@@ -197,7 +197,7 @@ module _ (asked looked : List FileRead) (numbers : List ℕ) (files : List FileS
           ∙ (sym (ap (read_passes (now_fits asked r.name) r.pages) none) ∙ all_of (λ (q : FileRead). read_passes (now_fits asked q.name) q.pages (file_of name_seen q.name files)) r asked fit is)
       by_file (Some x) found = ap (read_passes (now_fits both r.name) r.pages) found ∙ read_fits r.name x found r is refl
 
-  -- told of one name
+  -- reported of one name
   named : (name : List ℕ) (test : PageRead → Bool) (n : ℕ) (o : Option Cell)
       → list_all (λ (r : FileRead). read_passes (now_fits both r.name) r.pages (file_of name_seen r.name files)) (there_told asked files name n o)
       ≡ list_all (λ (r : FileRead). read_passes (now_fits both name) r.pages (file_of name_seen name files)) (there_told asked files name n o)
@@ -219,7 +219,7 @@ module _ (asked looked : List FileRead) (numbers : List ℕ) (files : List FileS
   lines_told_fit r is =
       all_flat passes_both (λ n. there_told asked files r.name n (line_there n (file_of name_seen r.name files))) (lines_of_read r.pages) (line_fits r is)
 
-  -- how long files are told to be
+  -- how long files are reported to be
   refused_so : (why : Why) → is_refused_for why (Refuses why) ≡ true
   refused_so why = (bytes_eq-Decides (why_text why) (why_text why)).1 refl
 
@@ -250,7 +250,7 @@ module _ (asked looked : List FileRead) (numbers : List ℕ) (files : List FileS
       ∙ and_from (is_reply (4096 * x.pages) past) (seen_pass (now_fits both name x.pages) past x.lines) (past_its_end x.pages)
       (no_lines (now_fits both name x.pages) (4096 * x.pages + 1) 0 because.Range x.lines)) refl)
 
-  -- each line that is there fits the question
+  -- each line that exists fits the question
   pub line_left_fits : (name : List ℕ) (n : ℕ) (line : Cell) → is_held numbers n ≡ true → line_there n (file_of name_seen name files) ≡ Some line → cell_fits (reads_of name asked) n line ≡ true
   line_left_fits name n line own is = by_file (file_of name_seen name files) refl
     where

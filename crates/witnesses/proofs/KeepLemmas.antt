@@ -240,7 +240,7 @@ pub numbers_kept_of_blocks : (sizes : Geometry) (inside : Option Action) (reads 
 numbers_kept_of_blocks sizes inside reads all [] = refl
 numbers_kept_of_blocks sizes inside reads all (s ∷ units) = ap (λ ns. s.number ∷ ns) (numbers_kept_of_blocks sizes inside reads all units)
 
--- and the lines of files are those that are there, by the lengths that are kept
+-- and the lines of files are those that exist, by the lengths that are kept
 pub lines_there : (h : Machine) (inside : Option Action) (asked looked : List FileRead) (s : FilesState) → SeesFiles s h → IsComplete h → IsReached h inside → are_held s.numbers looked ≡ true
     → (sizes : List SizeKept) (kept : List FileLineKept) → sizes ≡ sizes_kept inside asked looked s → kept ≡ files_kept inside asked looked s → places_of kept ≡ filter (has_line sizes) (places_read looked)
 lines_there h inside asked looked s sees complete reached held sizes kept of_sizes of_lines =

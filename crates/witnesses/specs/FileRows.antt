@@ -77,5 +77,5 @@ pub record FileWitnessRows : Type 0 where
   -- so that the rest is as asked: all files change together
   pub looked_made : looked_witness (Some (Rename (codes "b") (codes "a"))) (file_read (codes "a") 0 1 (Shows (7 ∷ [])) ∷ []) (file_read (codes "a") 0 1 (Poison 0) ∷ file_read (codes "b") 0 1 (Poison 0) ∷ [])
       (file_with (codes "b") (word_with (7 ∷ [])) empty ∷ []) ≡ codes " | file a pages 1 | file b missing | file a 0 07,00*7"
-  -- how long a file is that has no choice is not told
+  -- how long a file is that has no choice is not reported
   pub looked_settled : looked_witness None [] (file_read (codes "a") 0 1 (Poison 0) ∷ file_read (codes "b") 0 1 (Poison 0) ∷ []) (file_with (codes "a") (word_with (7 ∷ [])) empty ∷ []) ≡ []

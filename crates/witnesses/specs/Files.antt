@@ -42,7 +42,7 @@ abbrev pub line_kept_in : List FileRead → List ℕ → ℕ → Option FileStat
 line_kept_in reads name n now made None = []
 line_kept_in reads name n now made (Some line) = line_kept_of reads name n now made line ∷ []
 
--- and of each line that is there at which a read looks
+-- and of each line that exists at which a read looks
 abbrev pub read_kept : List FileRead → FilesState → FilesState → FilesState → FileRead → List FileLineKept
 read_kept reads now made left r =
     flat_map (λ n. line_kept_in reads r.name n (file_of name_seen r.name now.files) (file_of name_seen r.name made.files) (line_there n (file_of name_seen r.name left.files)))

@@ -41,7 +41,7 @@ names_of_sizes sizes = map (λ k. k.name) sizes
 abbrev pub names_read : List FileRead → List (List ℕ)
 names_read reads = map (λ (r : FileRead). r.name) reads
 
--- line n is before the end of a file of so many pages; and a line of a file, by what is kept of their lengths
+-- line n is before the end of a file of that number of pages; and a line of a file, by what is kept of their lengths
 abbrev pub is_before_end : ℕ → Option ℕ → Bool
 is_before_end n None = false
 is_before_end n (Some pages) = nat_lt (n / 64) pages

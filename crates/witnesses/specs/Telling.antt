@@ -1,5 +1,5 @@
--- What is kept, told as reads of a look: each line, of the volume or of a file, by one read of all its bytes, each block by one of its own;
--- and of a file that is there its length by reads of no byte, the first of which ends where it does, and the second one past its end.
+-- What is kept, reported as reads of a look: each line, of the volume or of a file, by one read of all its bytes, each block by one of its own;
+-- and of a file that exists its length by reads of no byte, the first of which ends where it does, and the second one past its end.
 use Rattle.std.specs.Prelude.{◌+◌, ◌*◌, ◌/◌, ◌%◌, ◌++◌, ℕ, List, [], ◌∷◌, flat_map, map, Option, Some, None, slice_index}
 use Rattle.std.specs.Int.{byte_at}
 use Rattle.nvm_model.specs.Numbered.{list_from}

@@ -18,7 +18,7 @@ use std::alloc::AllocError;
 /// Lines of a page.
 const PAGE_LINES: u64 = PAGE / LINE;
 
-/// Adds those that the span touches and that are there.
+/// Adds those that the span touches and that exist.
 pub fn keep_lines(
     reads: &[FileRead],
     name: &Name,

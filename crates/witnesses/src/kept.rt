@@ -8,8 +8,8 @@ use crate::size_kept::SizeKept;
 pub struct Kept {
     pub lines: Vec<LineKept>,
     pub blocks: Vec<BlockKept>,
-    /// Of each file that is read, whether it is there, and how long it is.
+    /// Of each file that is read, whether it exists, and how long it is.
     pub sizes: Vec<SizeKept>,
-    /// Those lines that are there.
+    /// Those lines that exist.
     pub files: Vec<FileLineKept>,
 }

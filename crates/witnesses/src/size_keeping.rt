@@ -9,7 +9,7 @@ use cut_places::reads_asked::FileRead;
 use cut_places::{FileSeen, FilesSeen};
 use std::alloc::{AllocError, Global};
 
-/// Keeps of the file of each read whether it is there, and how long it is, where the files are now such, are made such, and are left so.
+/// Keeps of the file of each read whether it exists, and how long it is, where the files are now such, are made such, and are left so.
 pub fn keep_sizes(
     alloc: Global,
     reads: &[FileRead],

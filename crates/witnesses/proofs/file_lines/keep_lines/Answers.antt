@@ -1,4 +1,4 @@
--- One more line is kept, if it is there.
+-- One more line is kept, if it exists.
 use Rattle.std.proofs.Common.{◌+◌, ap, ◌++◌, ◌∙◌}
 use Rattle.std.specs.Option.{option_copied}
 use Rattle.cut_places.specs.AskedReads.Reads.{file_reads_asked}

@@ -1,4 +1,4 @@
--- One more file is told.
+-- One more file is reported.
 use Rattle.witnesses.specs.Texts.{same_size, size_text}
 use Rattle.witnesses.proofs.TextLemmas.{told_next}
 use Rattle.witnesses.proofs.text.print_sizes.Goals as goal
