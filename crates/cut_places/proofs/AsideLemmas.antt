@@ -1,5 +1,5 @@
 -- Lines and blocks that no read looks at: all reads fit them.
-use Rattle.std.proofs.Common.{◌≡◌, ℕ, ◌+◌, ◌-◌, ◌*◌, ◌/◌, ◌%◌, ◌<◌, ◌≤◌, ◌==◌, ◌&&◌, ◌||◌, nat_le, nat_lt, not, Bool, true, false, Option, Some, None, List, [], ◌∷◌, ◌++◌, length, slice_index, slice_index_or, refl, sym, ap, ◌∙◌, arith, eq-eqb}
+use Rattle.std.proofs.Common.{◌≡◌, ℕ, ◌+◌, ◌-◌, ◌*◌, ◌/◌, ◌%◌, ◌<◌, ◌≤◌, ◌==◌, ◌&&◌, ◌||◌, nat_le, nat_lt, not, Bool, true, false, Option, Some, None, List, [], ◌∷◌, length, slice_index, slice_index_or, refl, sym, ap, ◌∙◌, arith, eq-eqb}
 use Rattle.std.specs.Int.{byte_at}
 use Rattle.std.specs.List.{list_all, list_any, range_with_len}
 use Rattle.std.proofs.lemmas.Bool.{and_from, and_parts, eqb-true, leb-true, lt-ltb, ltb-true, or_left}
@@ -13,7 +13,7 @@ use Rattle.sights.specs.MachineModel.Meaning.{most_refusal}
 use Rattle.sights.proofs.MachineModel.RefusalLemmas.{read_within}
 use Rattle.sights.specs.Outcomes.Blocks.{BlockRead, BlockReply, all_numbers_read, numbers_read}
 use Rattle.sights.specs.Outcomes.Blocks.BlockReply.{Shows as ShowsBlock, Scar, BadLine, Refuses as RefusesBlock}
-use Rattle.sights.specs.Outcomes.Pages.{PageRead, PageReply, agrees, all_agree, all_allow_bad, all_allow_good, all_lines_read, allows_bad, allows_good, is_given, is_reply, is_reply_by, lines_read, words_fit}
+use Rattle.sights.specs.Outcomes.Pages.{PageRead, PageReply, agrees, all_agree, all_allow_good, all_lines_read, allows_bad, allows_good, is_reply, is_reply_by, lines_read, words_fit}
 use Rattle.sights.specs.Outcomes.Pages.PageReply.{Shows, Poison, Refuses}
 use Rattle.sights.specs.AskedReads.Fitting.{cell_fits, sight_allows, sight_fits}
 use Rattle.cut_places.proofs.AllLemmas.{one_of_range}

@@ -1,5 +1,5 @@
 -- Whether a state, or one that a command was cut in, may show what is asked, where more is looked at than the question asks about.
-use Rattle.std.proofs.Common.{◌≡◌, ℕ, ◌*◌, ◌/◌, ◌<◌, ◌&&◌, ◌==◌, not, Bool, true, Option, None, Some, List, [], ◌∷◌, length, map, inl, inr, refl, sym, ap, subst, ◌∙◌}
+use Rattle.std.proofs.Common.{◌≡◌, ℕ, ◌*◌, ◌/◌, ◌<◌, ◌&&◌, ◌==◌, not, true, Option, None, Some, List, [], ◌∷◌, length, inl, inr, refl, sym, ap, subst, ◌∙◌}
 use Rattle.std.specs.List.{list_all}
 use Rattle.std.proofs.lemmas.Bool.{and_parts}
 use Rattle.nvm_model.specs.Blocks.{nth}
@@ -23,7 +23,7 @@ use Rattle.sights.specs.declared.way.Way.{Way}
 use Rattle.sights.specs.Changing.{line_changed, volume_change}
 use Rattle.sights.specs.ChangingBlocks.{block_changed}
 use Rattle.sights.specs.Seeing.{seen}
-use Rattle.sights.specs.Units.{AreBlocks, AreLines, block_may_fit, block_numbers, block_once_done, line_may_fit, line_numbers, line_once_done}
+use Rattle.sights.specs.Units.{AreBlocks, AreLines, block_may_fit, block_numbers, line_may_fit, line_numbers}
 use Rattle.sights.specs.Ways.{blocks_way, lines_way, passes_inside}
 use Rattle.sights.proofs.InsideLemmas.{AreThere, HaveLine, blocks_inside, volume_inside}
 use Rattle.sights.proofs.PassLemmas.{EachUnit, all_same}

@@ -1,5 +1,5 @@
 -- The questions of a script that is taken ask of its look's reads alone, each with a reply that it may have.
-use Rattle.std.proofs.Common.{◌≡◌, ◌==◌, ◌&&◌, ◌||◌, not, inl, inr, ℕ, ◌+◌, ◌++◌, Bool, true, false, List, [], ◌∷◌, length, Option, Some, None, Result, Ok, Err, if◌then◌else◌, refl, ap, sym, ◌∙◌, subst}
+use Rattle.std.proofs.Common.{◌≡◌, ◌==◌, ◌&&◌, not, inl, inr, ℕ, ◌+◌, ◌++◌, Bool, true, false, List, [], ◌∷◌, length, Option, Some, None, Result, Ok, Err, if◌then◌else◌, refl, ap, sym, ◌∙◌, subst}
 use Rattle.std.specs.Prelude.{option_map}
 use Rattle.std.proofs.lemmas.Bool.{and_parts}
 use Rattle.script_text.specs.Action.{Action}
@@ -16,7 +16,7 @@ use Rattle.exploration.specs.declared.asking.Wanted.{Wanted}
 use Rattle.exploration.specs.declared.reason.Reason.{Reason}
 use Rattle.exploration.specs.declared.reason.Reason.TheVariants.{Length, NothingAsked, Place, ReadAfterAQuestion, Refusal, Replies}
 use Rattle.exploration.specs.Answerable.{AllSeenBy, AreSeenBy, IsReadBy, read_seen}
-use Rattle.exploration.specs.Exploration.{Asked as AskedOf, Exploration, Look, asked_as, asked_from, asking_of, asks_nothing, asks_of_reads, is_asked, look_from, look_start, question_of, script_of, script_of_parts, script_with, with_line, with_question, with_seen, with_taken}
+use Rattle.exploration.specs.Exploration.{Asked as AskedOf, Exploration, Look, asked_as, asked_from, asking_of, asks_nothing, asks_of_reads, is_asked, look_from, look_start, script_of, script_of_parts, script_with, with_line, with_question, with_seen, with_taken}
 use Rattle.exploration.specs.Exploration.Script.{Taken}
 use Rattle.exploration.specs.Fitting.{fits, fits_read, fits_seen, has_length, has_place, has_refusal, may_be}
 use Rattle.exploration.specs.Lines.{LookLine, look_line}

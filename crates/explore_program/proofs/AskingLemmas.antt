@@ -4,7 +4,6 @@ use Rattle.word_tables.specs.declared.geometry.Geometry.{Geometry}
 use Rattle.script_text.specs.Action.{Action}
 use Rattle.outcome_lists.specs.AskedReads.declared.read.Read.{Read}
 use Rattle.outcome_lists.specs.OutcomeTest.Blocks.{all_numbers_read, numbers_read}
-use Rattle.outcome_lists.specs.OutcomeTest.Files.{FileRead}
 use Rattle.outcome_lists.specs.OutcomeTest.Pages.{all_lines_read, lines_read}
 use Rattle.outcome_lists.specs.OutcomeTest.Seen.{Seen, block_reads, file_reads, volume_reads}
 use Rattle.outcome_lists.specs.OutcomeTest.Seen.Seen.{of_blocks, of_file, of_volume}

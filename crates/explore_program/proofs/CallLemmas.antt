@@ -10,7 +10,6 @@ use Rattle.image_file.specs.Devices.{medium_of}
 use Rattle.line_device.specs.Panel.{Panel}
 use Rattle.line_device.specs.declared.line.LineState.{LineState}
 use Rattle.recovery.specs.Findings.{first_finding}
-use Rattle.script_text.specs.Script.{Input}
 use Rattle.word_tables.specs.declared.geometry.Geometry.{Geometry}
 use Rattle.outcome_lists.specs.MachineModel.Machine.{Machine}
 use Rattle.outcome_lists.specs.OutcomeTest.Seen.{Seen}
@@ -36,7 +35,7 @@ use Rattle.program_base.specs.Writing.{WritesFront, WritesLine}
 use Rattle.program_base.proofs.BytesLemmas.{appends_then}
 use Rattle.program_base.specs.declared.ending.Ending.{Ending}
 use Rattle.program_base.specs.declared.ending.Ending.TheVariants as endings
-use Rattle.explore_program.specs.Calls.{AllAskOf, AnswersAll, AreCommands, AreTheorems, Fails, Halts, IsCaused, IsTaken, IsUnanswered, IsUnread, LeavesImages, Outcome, TellsShown, asked_first, begun, found, looked_at, most, reads_of, refused_text}
+use Rattle.explore_program.specs.Calls.{AllAskOf, AnswersAll, AreCommands, AreTheorems, Fails, Halts, IsCaused, IsTaken, IsUnanswered, IsUnread, LeavesImages, Outcome, asked_first, begun, found, looked_at, most, reads_of, refused_text}
 use Rattle.explore_program.specs.Showing.{begun_at, refusals, shown}
 use Rattle.explore_program.specs.Stops.{of_script, stop_status}
 use Rattle.explore_program.specs.declared.stop.Stop.{Stop}

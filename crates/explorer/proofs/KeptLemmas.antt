@@ -1,21 +1,17 @@
 -- What is kept at the place that is found is of all that the look's reads touch, and marked as its rows in a table are.
-use Rattle.std.proofs.Common.{◌≡◌, inl, inr, ℕ, ◌-◌, ◌/◌, ◌*◌, ◌<◌, Bool, true, false, cond, Option, Some, None, List, [], ◌∷◌, ◌++◌, filter, length, map, option_map, slice_get, is_some, refl, sym, ap, subst, ◌∙◌, arith}
+use Rattle.std.proofs.Common.{◌≡◌, inl, inr, ℕ, ◌-◌, ◌/◌, ◌*◌, ◌<◌, Bool, true, false, cond, Option, Some, None, List, [], ◌∷◌, ◌++◌, filter, length, map, option_map, is_some, refl, sym, ap, subst, ◌∙◌, arith}
 use Rattle.std.specs.Option.{option_and_then}
 use Rattle.word_tables.specs.declared.geometry.Geometry.{Geometry}
-use Rattle.nvm_model.specs.Blocks.{nth}
 use Rattle.nvm_model.specs.Cell.{Cell}
-use Rattle.nvm_model.specs.Cell.Cell.{Bad, Kept}
 use Rattle.nvm_model.specs.Page.{Page}
-use Rattle.block_sights.specs.Sights.{sight}
 use Rattle.script_text.specs.Action.{Action, action_of}
 use Rattle.script_text.specs.declared.command.Command.{Command}
 use Rattle.cut_places.specs.MachineModel.Commands.{meaning, refusal, while_interrupted}
 use Rattle.cut_places.specs.MachineModel.Machine.{Machine}
-use Rattle.cut_places.specs.MachineModel.Meaning.{FilesLeft}
 use Rattle.cut_places.specs.Outcomes.Blocks.{all_numbers_read}
 use Rattle.cut_places.specs.Outcomes.Files.{FileRead}
-use Rattle.cut_places.specs.Outcomes.Pages.{PageRead, all_lines_read}
-use Rattle.cut_places.specs.Outcomes.Seen.{Seen, block_reads, file_reads, may_show, volume_reads}
+use Rattle.cut_places.specs.Outcomes.Pages.{all_lines_read}
+use Rattle.cut_places.specs.Outcomes.Seen.{Seen, may_show}
 use Rattle.cut_places.specs.Outcomes.Finds.{IsReady}
 use Rattle.cut_places.specs.Outcomes.Stops.{IsProgram, led_to}
 use Rattle.cut_places.specs.AskedReads.Asking.{IsLook, blocks_of, files_asked, volume_asked}
@@ -24,10 +20,8 @@ use Rattle.cut_places.specs.AskedReads.declared.question.Question.{Question}
 use Rattle.cut_places.specs.declared.place.CutPlace.{CutPlace}
 use Rattle.cut_places.specs.declared.place.CutPlace.TheVariants.{Before, Inside}
 use Rattle.cut_places.specs.declared.sight.Sight.{Sight}
-use Rattle.cut_places.specs.FileChanges.{left_by}
 use Rattle.cut_places.specs.FileCommands.{files_change}
 use Rattle.cut_places.specs.FileFitting.{now_fits, reads_pass}
-use Rattle.cut_places.specs.FileMixing.{way_left}
 use Rattle.cut_places.specs.FilesState.{FilesState, name_seen}
 use Rattle.cut_places.specs.SeesFiles.{SeesFile, SeesFiles, is_held}
 use Rattle.nvm_model.specs.Listing.{file_name, file_of}
@@ -48,7 +42,7 @@ use Rattle.cut_places.proofs.StepLemmas.{blocks_in, lines_of}
 use Rattle.value_tables.specs.declared.shown.Shown.TheVariants.{Block}
 use Rattle.value_tables.specs.Left.{block_left, file_left, line_left}
 use Rattle.value_tables.specs.Listed.{HasWords, IsSound}
-use Rattle.value_tables.specs.Sides.{AreBlocksLeft, AreFilesLeft, AreLeft, where_files_mixed, where_mixed}
+use Rattle.value_tables.specs.Sides.{AreBlocksLeft, AreFilesLeft, AreLeft, where_mixed}
 use Rattle.value_tables.proofs.FileSideLemmas.{files_cut, files_rest}
 use Rattle.value_tables.specs.Values.{cells_of}
 use Rattle.value_tables.proofs.FileValueLemmas.{SideHasWords, sides_have}

@@ -16,7 +16,7 @@ use Rattle.cut_places.specs.Outcomes.Files.{FileRead}
 use Rattle.cut_places.specs.Outcomes.Pages.{all_lines_read, is_reply, is_reply_by, lines_read}
 use Rattle.cut_places.specs.Outcomes.Pages.PageReply.{Poison}
 use Rattle.cut_places.specs.Outcomes.Blocks.BlockReply.{Scar}
-use Rattle.cut_places.specs.Outcomes.Seen.{Seen, block_reads, file_reads, volume_reads}
+use Rattle.cut_places.specs.Outcomes.Seen.{block_reads, file_reads, volume_reads}
 use Rattle.cut_places.specs.AskedReads.Asking.{IsLook, blocks_of, files_asked, may_be_file_reply, may_be_replies, volume_asked}
 use Rattle.cut_places.specs.AskedReads.Reads.{block_read, file_read, page_read}
 use Rattle.cut_places.specs.AskedReads.declared.question.Question.{Question}

@@ -1,19 +1,16 @@
 -- What is kept of how long files are is marked where a cut may leave it otherwise.
-use Rattle.std.proofs.Common.{◌≡◌, ◌&&◌, ◌==◌, not, ℕ, Bool, true, false, cond, Option, Some, None, List, [], ◌∷◌, length, map, option_map, is_some, refl, sym, ap, ◌∙◌, eq-eqb}
-use Rattle.std.specs.Option.{option_and_then}
+use Rattle.std.proofs.Common.{◌≡◌, ◌&&◌, not, ℕ, Bool, true, false, cond, Option, Some, None, List, [], ◌∷◌, length, map, option_map, is_some, refl, sym, ap, ◌∙◌, eq-eqb}
 use Rattle.std.specs.Str.{bytes_eq}
 use Rattle.nvm_model.specs.Listing.{AreAlike, file_name, file_of, is_named}
 use Rattle.nvm_model.specs.Storage.{File}
 use Rattle.script_text.specs.Action.{Action}
 use Rattle.cut_places.specs.MachineModel.Commands.{refusal}
 use Rattle.cut_places.specs.MachineModel.Machine.{Machine}
-use Rattle.cut_places.specs.MachineModel.Meaning.{FilesLeft}
 use Rattle.cut_places.specs.Durable.Durable.{IsComplete}
 use Rattle.cut_places.specs.Outcomes.Files.{FileRead}
 use Rattle.cut_places.specs.SightsSeen.declared.way.Way.{Way}
 use Rattle.cut_places.specs.FileChanges.{FilesChange, files_changed, left_by}
 use Rattle.cut_places.specs.FileCommands.{files_change}
-use Rattle.cut_places.specs.FileMixing.{way_left}
 use Rattle.cut_places.specs.Maps.{uncopied}
 use Rattle.cut_places.specs.SeesFiles.{SeesFile, SeesFiles}
 use Rattle.cut_places.specs.FilesState.{FileState, FilesState, files_after, name_seen}

@@ -1,5 +1,5 @@
 -- Lines of files that are held, by the places at which reads look.
-use Rattle.std.proofs.Common.{◌≡◌, ◌⊎◌, inl, inr, ℕ, true, List, [], ◌∷◌, ◌++◌, map, refl, sym, ap, subst, ◌∙◌}
+use Rattle.std.proofs.Common.{◌≡◌, inl, inr, ℕ, true, List, [], ◌∷◌, map, refl, sym, ap, subst}
 use Rattle.std.specs.List.{list_all}
 use Rattle.cut_places.specs.Outcomes.Files.{FileRead}
 use Rattle.cut_places.specs.SeesFiles.{are_held, is_held}

@@ -1,5 +1,5 @@
 -- Texts that are appended one behind the other.
-use Rattle.std.proofs.Common.{◌≡◌, ◌+◌, ◌<◌, ℕ, suc, Bool, List, [], ◌∷◌, ◌++◌, Result, Ok, Err, flat_map, length, map, take, drop, get_or, sym, ap, ◌∙◌, arith, append-nil, append_assoc}
+use Rattle.std.proofs.Common.{◌≡◌, ◌+◌, ◌<◌, ℕ, suc, Bool, List, [], ◌∷◌, ◌++◌, Result, Ok, Err, flat_map, length, take, drop, get_or, sym, ap, ◌∙◌, arith, append-nil, append_assoc}
 use Rattle.std.specs.List.{range_with_len}
 use Rattle.std.specs.Result.{OnOk}
 use Rattle.std.proofs.Math.Seq.{drop-cons}

@@ -1,19 +1,17 @@
 -- A cut that may leave what a question asks may leave it of all that is looked at, more than the question does.
-use Rattle.std.proofs.Common.{◌≡◌, ◌⊎◌, inl, inr, ℕ, ◌*◌, ◌/◌, ◌<◌, ◌&&◌, ◌==◌, not, true, false, cond, Bool, Option, Some, None, List, [], ◌∷◌, length, map, option_map, refl, sym, ap, subst, ◌∙◌}
+use Rattle.std.proofs.Common.{◌≡◌, ◌⊎◌, inl, inr, ℕ, ◌*◌, ◌/◌, ◌<◌, ◌&&◌, ◌==◌, not, true, false, Bool, Option, Some, None, List, [], ◌∷◌, length, refl, sym, ap, subst, ◌∙◌}
 use Rattle.std.specs.List.{list_all}
 use Rattle.std.specs.Option.{option_and_then}
 use Rattle.std.proofs.lemmas.Bool.{and_parts}
 use Rattle.word_tables.specs.declared.geometry.Geometry.{Geometry}
 use Rattle.nvm_model.specs.Blocks.{nth}
 use Rattle.nvm_model.specs.Cell.{Cell}
-use Rattle.nvm_model.specs.Page.{Page, cell_of}
-use Rattle.nvm_model.specs.Storage.{Block}
+use Rattle.nvm_model.specs.Page.{cell_of}
 use Rattle.block_sights.specs.Sights.{Sight as Look, sight}
 use Rattle.script_text.specs.Action.{Action}
 use Rattle.cut_places.specs.MachineModel.Machine.{Machine}
-use Rattle.cut_places.specs.MachineModel.Commands.{meaning, refusal, while_interrupted}
+use Rattle.cut_places.specs.MachineModel.Commands.{while_interrupted}
 use Rattle.cut_places.specs.Outcomes.Blocks.{all_numbers_read, block_fits, is_block_reply}
-use Rattle.cut_places.specs.Outcomes.Files.{FileRead}
 use Rattle.cut_places.specs.Outcomes.Left.{blocks_may_pass, files_may_pass, volume_may_pass}
 use Rattle.cut_places.specs.Outcomes.Pages.{all_lines_read, is_reply, line_fits}
 use Rattle.cut_places.specs.Outcomes.Seen.{Seen, block_reads, blocks_may_show, file_reads, files_may_show, may_show, volume_may_show, volume_reads}

@@ -1,7 +1,7 @@
 use Rattle.std.proofs.Common.{◌≡◌, ◌||◌, sym, ap, ◌∙◌, subst, arith, slice_get, Some}
 use Rattle.std.proofs.lemmas.Result.{err_from_is_err_and}
 use Rattle.explore_program.specs.Telling.{is_missed}
-use Rattle.outcome_lists.specs.AskedReads.Asking.{IsLook, may_be_replies}
+use Rattle.outcome_lists.specs.AskedReads.Asking.{IsLook}
 use Rattle.outcome_lists.specs.Explorer.Tabulating.{looked}
 use Rattle.program_base.specs.Opening.{opened}
 use Rattle.explore_program.proofs.AnswerLemmas.{answered_none, asked_at, goes_more, goes_through, goes_unfound, goes_untold, looked_asks, looked_replies, spelled_by}
