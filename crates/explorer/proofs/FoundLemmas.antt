@@ -1,5 +1,5 @@
 -- The first place of a cut that shows what is asked, and what is kept there.
-use Rattle.std.proofs.Common.{◌≡◌, ◌-◌, ⊥, Option, Some, None, List, refl, sym, ap, subst}
+use Rattle.std.proofs.Common.{◌≡◌, ◌-◌, Option, Some, None, List, refl, sym, ap, subst}
 use Rattle.std.proofs.lemmas.Option.{slice_get_within}
 use Rattle.script_text.specs.declared.command.Command.{Command}
 use Rattle.script_text.specs.Script.{Input}
