@@ -1,7 +1,7 @@
 -- A word could be otherwise than it is kept exactly where its row in a table has more than one value.
-use Rattle.std.proofs.Common.{◌≡◌, ◌⊎◌, inl, inr, ℕ, suc, ◌+◌, ◌*◌, ◌<◌, ◌≤◌, ◌==◌, ◌&&◌, ◌||◌, nat_lt, not, Bool, true, false, cond, Some, List, [], ◌∷◌, ◌++◌, length, map, slice_index, slice_index_or, refl, sym, ap, subst, ◌∙◌, arith, eq-eqb}
+use Rattle.std.proofs.Common.{◌≡◌, ◌⊎◌, inl, inr, ℕ, ◌+◌, ◌*◌, ◌<◌, ◌≤◌, ◌==◌, ◌||◌, nat_lt, not, Bool, true, false, cond, Some, List, [], ◌∷◌, ◌++◌, length, slice_index, slice_index_or, refl, sym, ap, subst, ◌∙◌, arith, eq-eqb}
 use Rattle.std.specs.List.{list_any}
-use Rattle.std.proofs.lemmas.Bool.{and_parts, eqb-true, le-ltb, lt-ltb}
+use Rattle.std.proofs.lemmas.Bool.{and_parts, eqb-true, lt-ltb}
 use Rattle.nvm_model.specs.Cell.{Cell}
 use Rattle.nvm_model.specs.Cell.Cell.{Bad, Kept}
 use Rattle.nvm_model.specs.Numbered.{list_from}
@@ -20,7 +20,7 @@ use Rattle.witnesses.specs.declared.line_kept.LineLeft.TheVariants as left
 use Rattle.witnesses.specs.Lines.{first_agreed, left_of, may_differ}
 use Rattle.witnesses.proofs.ListLemmas.{IsAmong, any_in, found, range_each}
 use Rattle.witnesses.proofs.WordLemmas.{item_from}
-use Rattle.explorer.specs.Choosing.{one_if, side_count, word_count}
+use Rattle.explorer.specs.Choosing.{one_if, side_count}
 
 -- of a list of values each of which stands there once: it has the value v alone, or none
 abbrev IsOnly : ℕ → List ℕ → Type 0

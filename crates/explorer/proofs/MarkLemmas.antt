@@ -1,8 +1,7 @@
 -- What is kept of lines and of blocks is marked as their rows in a table are.
-use Rattle.std.proofs.Common.{◌≡◌, inl, inr, ℕ, zero, suc, ◌+◌, ◌*◌, ◌/◌, ◌%◌, ◌<◌, ◌≤◌, ◌==◌, ◌||◌, nat_lt, not, Bool, true, false, cond, Option, Some, None, List, [], ◌∷◌, length, map, refl, sym, ap, subst, ◌∙◌, arith, eq-eqb}
+use Rattle.std.proofs.Common.{◌≡◌, inl, inr, ℕ, zero, suc, ◌+◌, ◌*◌, ◌/◌, ◌%◌, ◌<◌, ◌≤◌, ◌||◌, nat_lt, not, Bool, true, false, cond, Option, Some, None, List, [], ◌∷◌, length, map, refl, sym, ap, subst, ◌∙◌, arith, eq-eqb}
 use Rattle.std.specs.List.{list_any}
 use Rattle.std.specs.Option.{option_and_then}
-use Rattle.std.specs.Str.{bytes_eq}
 use Rattle.std.proofs.lemmas.Bool.{eqb-true}
 use Rattle.std.proofs.lemmas.Slice.Eq.{bytes_eq-Decides}
 use Rattle.word_tables.specs.declared.geometry.Geometry.{Geometry}
@@ -14,7 +13,7 @@ use Rattle.script_text.specs.Action.{Action}
 use Rattle.cut_places.specs.MachineModel.Machine.{Machine}
 use Rattle.cut_places.specs.Outcomes.Blocks.{BlockRead}
 use Rattle.cut_places.specs.Outcomes.Pages.{PageRead}
-use Rattle.cut_places.specs.AskedReads.Fitting.{cell_fits, sight_fits}
+use Rattle.cut_places.specs.AskedReads.Fitting.{cell_fits}
 use Rattle.cut_places.specs.SightsSeen.BlockTelling.{same_sight}
 use Rattle.cut_places.specs.SightsSeen.Changing.{volume_change}
 use Rattle.cut_places.specs.SightsSeen.declared.block_seen.BlockSeen.{BlockSeen}
@@ -24,7 +23,7 @@ use Rattle.cut_places.specs.SightsSeen.Units.{block_numbers, line_numbers}
 use Rattle.cut_places.specs.SightsSeen.Ways.{blocks_way, lines_way}
 use Rattle.cut_places.proofs.SightsSeen.PassLemmas.{EachUnit}
 use Rattle.value_tables.specs.declared.shown.Shown.TheVariants.{Block, Word}
-use Rattle.value_tables.specs.Left.{FileSide, block_left, line_left}
+use Rattle.value_tables.specs.Left.{block_left, line_left}
 use Rattle.value_tables.specs.Left.FileSide.{OfLine}
 use Rattle.value_tables.specs.Listed.{HasWords}
 use Rattle.value_tables.specs.Sides.{AreBlocksLeft, AreLeft, where_mixed}
@@ -35,7 +34,7 @@ use Rattle.witnesses.specs.declared.line_kept.LineKept.{LineKept}
 use Rattle.witnesses.specs.declared.line_kept.LineLeft.{LineLeft}
 use Rattle.witnesses.specs.Blocks.{block_kept, block_made}
 use Rattle.witnesses.specs.Leaving.{mixing, stays, unit_left}
-use Rattle.witnesses.specs.Lines.{free_words, left_of, line_kept, line_made, line_mixed, may_differ, line_left as line_as_left}
+use Rattle.witnesses.specs.Lines.{left_of, line_kept, line_made, line_mixed, may_differ, line_left as line_as_left}
 use Rattle.witnesses.proofs.ListLemmas.{IsAmong, any_map}
 use Rattle.explorer.specs.Choosing.{has_choice, line_choices, one_if, side_count, word_count}
 use Rattle.explorer.proofs.ChoiceLemmas.{kept_choice, side_differs}
