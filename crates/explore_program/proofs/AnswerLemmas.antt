@@ -29,6 +29,8 @@ use Rattle.program_base.proofs.BytesLemmas.{appends-none, appends_then}
 use Rattle.program_base.proofs.WritingLemmas.{told_all, told_front}
 use Rattle.explore_program.specs.Calls.{AllAskOf, AnswersAll, AreAnswered, FirstAnswered, IsUnanswered}
 use Rattle.explore_program.specs.declared.stop.Stop.{Stop as Stopped}
+use Rattle.explore_program.specs.declared.stop.Stop.TheVariants as stops
+use Rattle.program_base.specs.declared.ending.Ending.TheVariants as endings
 use Rattle.explore_program.specs.Stops.{of_write}
 use Rattle.explore_program.proofs.CauseLemmas.{fell_on, unanswered_later, unanswered_write}
 use Rattle.explore_program.specs.Telling.{answer_line, answer_text, is_any_missed, is_missed}
@@ -228,6 +230,13 @@ module _ (geo : Geometry) (reads : List Read) (tell : List Seen → Option Stop)
       let part = part_answers geo reads tell asked i a.0 found missed old now new a.1 (finds a.0.look a.2.look (within_at geo reads asked i a.0 under a.1)) (goes.answered asked ask under)
       (told_front line told (answer_line (looked geo reads) found) now new spelled wrote) in
       (unanswered_write fault counted between counts began is goes.later rose, part.0, part.1, part.2)
+
+-- or nothing is answered yet
+pub goes_unlooked : (geo : Geometry) (reads : List Read) (tell : List Seen → Option Stop) (asked : List Asked) (old : Option (List ℕ)) (counted counts : ℕ) (began at : Panel)
+    → AnswersAll (looked geo reads) [] tell asked (Err (stops.Early endings.Memory)) old old counted counts began at
+goes_unlooked geo reads tell asked old counted counts began at =
+    let first = first_answers geo reads tell asked 0 false old old (answered_none geo reads tell asked old) in
+    (tt, first.0, first.1, first.2)
 
 -- at the end all are answered
 pub goes_through : (geo : Geometry) (reads : List Read) (tell : List Seen → Option Stop) (questions : List Asking) (i : ℕ) (missed : Bool) (old now : Option (List ℕ)) (counted counts : ℕ) (began at : Panel) → length questions ≤ i

@@ -1,10 +1,12 @@
-use Rattle.std.proofs.Common.{◌≡◌, ◌||◌, sym, ap, ◌∙◌, subst, arith, slice_get, Some}
+use Rattle.std.proofs.Common.{◌≡◌, ◌||◌, sym, ap, ◌∙◌, subst, arith, List, slice_get, Some}
 use Rattle.std.proofs.lemmas.Result.{err_from_is_err_and}
 use Rattle.explore_program.specs.Telling.{is_missed}
 use Rattle.outcome_lists.specs.AskedReads.Asking.{IsLook}
-use Rattle.outcome_lists.specs.Explorer.Tabulating.{looked}
+use Rattle.outcome_lists.specs.AskedReads.declared.read.Read.{Read}
+use Rattle.outcome_lists.specs.OutcomeTest.Seen.{Seen}
+use Rattle.outcome_lists.specs.Explorer.Tabulating.{LooksWithin, looked}
 use Rattle.program_base.specs.Opening.{opened}
-use Rattle.explore_program.proofs.AnswerLemmas.{answered_none, asked_at, goes_more, goes_through, goes_unfound, goes_untold, looked_asks, looked_replies, spelled_by}
+use Rattle.explore_program.proofs.AnswerLemmas.{answered_none, asked_at, goes_more, goes_through, goes_unfound, goes_unlooked, goes_untold, looked_asks, looked_replies, spelled_by}
 use Rattle.explore_program.proofs.answering.answer_all.Goals.{then-missed, else-missed}
 use Rattle.explore_program.proofs.answering.answer_all.Goals as goal
 
@@ -14,9 +16,14 @@ loop-asking-init g c = record { later = omega arith; device = record { setups = 
 pub find-requires-clause-replies : goal.find-requires-clause-replies
 find-requires-clause-replies g c = looked_replies c.requires.sizes c.in_ok-looked.ensures
 
+pub returns-in_err-looked : goal.returns-in_err-looked
+returns-in_err-looked g c asked ask under =
+    let p = err_from_is_err_and c.from_residual.result c.from_residual.ensures.1 in
+    rw (p.1, p.2) (goes_unlooked (opened c.args.image.now.lines.items).geometry c.args.exploration.now.reads.items _ asked (g.K.Sink.written c.args.answers.now) (g.K.Sink.count c.args.answers.now) (g.K.Sink.count c.args.answers.now) (g.D.Lines.state c.args.device.now).panel (g.D.Lines.state c.args.device.now).panel)
+
 pub returns-in_err-found : goal.returns-in_err-found
 returns-in_err-found g c asked ask under =
-    let p = err_from_is_err_and c.from_residual.result c.from_residual.ensures.1 in
+    let p = err_from_is_err_and c.from_residual-in_err-found.result c.from_residual-in_err-found.ensures.1 in
     let at = subst (λ questions. slice_get questions c.loop-asking.asking-index ≡ Some c.asking-item.result) c.deref-asking-items.ensures.value
     (asked_at c.deref-asking-items.result.now c.loop-asking.asking-index c.asking-item.result c.loop-asking-test.true c.asking-item.is) in
     rw (p.1, p.2) (goes_unfound (opened c.args.image.now.lines.items).geometry c.args.exploration.now.reads.items _ c.args.exploration.now.questions.items c.loop-asking.asking-index c.asking-item.result c.loop-asking.missed _ _ (g.K.Sink.written c.loop-asking.answers) _ _ (g.K.Sink.count c.loop-asking.answers) _ _ (g.D.Lines.state c.find.new.device).panel at
@@ -29,8 +36,8 @@ returns-in_err-tell g c asked ask under =
     (asked_at c.deref-asking-items.result.now c.loop-asking.asking-index c.asking-item.result c.loop-asking-test.true c.asking-item.is) in
     let geo = (opened c.args.image.now.lines.items).geometry in
     let all = looked geo c.args.exploration.now.reads.items in
-    let asks : IsLook all c.in_ok-looked.looked = looked_asks c.requires.sizes c.in_ok-looked.ensures in
-    let finds = λ look is under. c.in_ok-found.ensures.found look all is asks under in
+    let asks = subst (λ (rs : List Read). IsLook (looked geo rs) c.in_ok-looked.looked) c.deref.ensures.value (looked_asks c.requires.sizes c.in_ok-looked.ensures) in
+    let finds = λ (look : List Seen) (is : IsLook look c.asking-item.result.question) (within : LooksWithin all look). c.in_ok-found.ensures.found look all is asks within in
     rw (p.1, p.2) (goes_untold (opened c.args.image.now.lines.items).geometry c.args.exploration.now.reads.items _ c.args.exploration.now.questions.items c.loop-asking.asking-index c.asking-item.result c.loop-asking.missed _ _ _ _ _ _ _ _ (g.D.Lines.state c.find.new.device).panel at
     c.loop-asking.invariant c.in_err-tell.field-0.0 c.in_ok-found.found c.answer_line.result c.tell.result finds
     (spelled_by _ _ _ c.answer_line.result asks c.answer_line.ensures) c.tell.ensures.bytes c.in_err-tell.ensures.cause asked ask under)
@@ -45,8 +52,8 @@ loop-asking-preserved g c =
     ] in
     let geo = (opened c.args.image.now.lines.items).geometry in
     let all = looked geo c.args.exploration.now.reads.items in
-    let asks : IsLook all c.in_ok-looked.looked = looked_asks c.requires.sizes c.in_ok-looked.ensures in
-    let finds = λ look is under. c.in_ok-found.ensures.found look all is asks under in
+    let asks = subst (λ (rs : List Read). IsLook (looked geo rs) c.in_ok-looked.looked) c.deref.ensures.value (looked_asks c.requires.sizes c.in_ok-looked.ensures) in
+    let finds = λ (look : List Seen) (is : IsLook look c.asking-item.result.question) (within : LooksWithin all look). c.in_ok-found.ensures.found look all is asks within in
     goes_more (opened c.args.image.now.lines.items).geometry c.args.exploration.now.reads.items _ c.args.exploration.now.questions.items c.loop-asking.asking-index c.asking-item.result c.loop-asking.missed _ _ _ _ _ _ _ _ (g.D.Lines.state c.find.new.device).panel at
     c.loop-asking.invariant c.in_ok-found.found c.if-missed.missed c.answer_line.result c.tell.result c.in_ok-tell.field-0
     finds c.in_ok-found.ensures.counts (spelled_by _ _ _ c.answer_line.result asks c.answer_line.ensures) c.tell.ensures.bytes c.in_ok-tell.was c.tell.ensures.later says
