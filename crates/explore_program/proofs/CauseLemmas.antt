@@ -1,5 +1,5 @@
 -- Why a question was not answered, told from an earlier state of the device on.
-use Rattle.std.proofs.Common.{◌≡◌, ◌≤◌, ◌⊎◌, ℕ, List, None, inl, inr, refl, sym, subst, ◌∙◌, arith}
+use Rattle.std.proofs.Common.{◌≡◌, ◌≤◌, ℕ, List, None, inl, inr, refl, sym, subst, ◌∙◌, arith}
 use Rattle.nvm_base.specs.Counts.{Rose}
 use Rattle.host_io.specs.declared.sink.WriteFault.{WriteFault}
 use Rattle.host_io.specs.declared.sink.WriteFault.TheVariants as write

@@ -1,4 +1,4 @@
-use Rattle.std.proofs.Common.{◌≡◌, Ok, ap, arith, ◌∙◌}
+use Rattle.std.proofs.Common.{Ok, ap, arith, ◌∙◌}
 use Rattle.std.proofs.lemmas.Result.{err_from_is_err_and}
 use Rattle.outcome_lists.specs.AskedReads.Program.{inputs_of_lines}
 use Rattle.program_base.specs.Opening.{opened}

@@ -1,4 +1,4 @@
-use Rattle.std.proofs.Common.{Ok, ap, arith, ◌∙◌}
+use Rattle.std.proofs.Common.{Ok, arith}
 use Rattle.std.proofs.lemmas.Result.{err_from_is_err_and}
 use Rattle.program_base.proofs.WritingLemmas.{told_front}
 use Rattle.explore_program.proofs.CauseLemmas.{unanswered_write}
