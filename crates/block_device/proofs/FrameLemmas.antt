@@ -1,8 +1,8 @@
 -- What images read as where the lines of log, map and units keep what they have.
 use Rattle.std.proofs.Common.{◌≡◌, inr, ℕ, Bool, false, ◌/◌, List, length, refl, sym, ◌∙◌, subst}
-use Rattle.line_device.specs.History.{IsIn}
+use Rattle.line_device.specs.History.{IsTorn}
 use Rattle.line_device.specs.Medium.{Medium, WritesBack, last_image}
-use Rattle.line_device.proofs.HistoryLemmas.{is_in-word_write_back}
+use Rattle.line_device.proofs.TornLemmas.{torn-word_write_back}
 use Rattle.line_words.specs.Words.{IsOnly, WritesBackOutside, WritesBackBeside}
 use Rattle.line_words.proofs.FrameLemmas.{outside-write_back}
 use Rattle.word_tables.specs.declared.geometry.Geometry.{Geometry}
@@ -30,10 +30,10 @@ blocks_read-marks geo bad bad' image valid is_map marks =
     (λ n named. marks n (named_is_data geo valid states n (length-states_read geo image) is_map named))
     (λ p _ _. refl)
 
--- The blocks' lines keep their marks, each value of a good one was there before, and a unit's word of one value keeps it.
+-- The blocks' lines keep their marks, a cut leaves of a good one what it might have left before, and a unit's word of one value keeps it.
 pub record Keeps (geo : Geometry) (old new : Medium) : Type 0 where
   pub bad : (n : ℕ) → IsBlockLine geo n → new.is_bad n ≡ old.is_bad n
-  pub was : (p v : ℕ) → IsBlockPlace geo p → old.is_bad (p / 8) ≡ false → IsIn v (new.history p) → IsIn v (old.history p)
+  pub was : (p v : ℕ) → IsBlockPlace geo p → old.is_bad (p / 8) ≡ false → IsTorn v (new.history p) → IsTorn v (old.history p)
   pub durable : (p : ℕ) → HasLine geo blocks (p / 8) → IsOnly (last_image old p) (old.history p) → IsOnly (last_image new p) (new.history p)
 
 pub each_reads-kept : (geo : Geometry) (old new : Medium) (P : List Block → Type 0) → IsValid geo → Keeps geo old new → EachReads geo old P → EachReads geo new P
@@ -55,7 +55,7 @@ each_reads-kept geo old new P valid keeps each image is =
 pub keeps-stays : (geo : Geometry) (old new : Medium) → ((n : ℕ) → IsBlockLine geo n → Stays old new n) → Keeps geo old new
 keeps-stays geo old new stays = record {
   bad = λ n of. (stays n of).bad;
-  was = λ p v of _ at. is_in-word_write_back (old.is_weak (p / 8)) v (old.history p) (new.history p) ((stays (p / 8) of).word_write_back p refl) at;
+  was = λ p v of _ at. torn-word_write_back (old.is_weak (p / 8)) v (old.history p) (new.history p) ((stays (p / 8) of).word_write_back p refl) at;
   durable = λ p has only.
       let x = stays (p / 8) (inr (inr has)) in
       subst (λ v. IsOnly v (new.history p)) (sym (newest-stays old new p x)) (is_only-stays old new p (last_image old p) x only);

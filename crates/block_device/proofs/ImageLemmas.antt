@@ -1,6 +1,7 @@
 -- What an image reads as, by what its log replays to.
 use Rattle.std.proofs.Common.{◌≡◌, inr, ℕ, suc, ◌+◌, ◌-◌, ◌*◌, ◌/◌, ◌<◌, List, [], ◌∷◌, length, get_or, refl, sym, ◌∙◌, ap, ap₂, subst, arith}
 use Rattle.line_device.specs.Medium.{Medium, last_image}
+use Rattle.line_device.proofs.TornLemmas.{torn-only}
 use Rattle.word_tables.specs.declared.geometry.Geometry.{Geometry}
 use Rattle.word_tables.specs.Bounds.{IsValid}
 use Rattle.word_tables.specs.Layout.{block_map, first_line, total_lines}
@@ -64,7 +65,9 @@ reads geo m states image valid all is_map durable is replays =
           ap (map_read geo m.is_bad image) same
           ∙ map_read-same geo m.is_bad m.is_bad (last_image m) image states
           (λ n _. refl)
-          (λ p named good. durable named.block named.unit named.at p named.from named.to (image p) (is p (inr (inr (named_is_data geo valid states (p / 8) all is_map named))) good));
+          (λ p named good.
+          torn-only (last_image m p) (image p) (m.history p) (durable named.block named.unit named.at p named.from named.to)
+          (is p (inr (inr (named_is_data geo valid states (p / 8) all is_map named))) good));
     }
 
 pub reads-then : (geo : Geometry) (m : Medium) (P Q : List Block → Type 0) (image : ℕ → ℕ) → ((bs : List Block) → P bs → Q bs) → ReadsAs geo m P image → ReadsAs geo m Q image

@@ -2,11 +2,10 @@
 use Rattle.std.proofs.Common.{◌≡◌, ◌⊎◌, inl, inr, ℕ, Bool, ◌/◌, ◌<◌, ◌≤◌, List, None, map, if◌then◌else◌, nat_lt, refl, sym, ◌∙◌, ap, subst, arith}
 use Rattle.std.specs.Option.{option_map}
 use Rattle.std.proofs.lemmas.Bool.{lt-ltb, le-ltb}
-use Rattle.line_device.specs.History.{IsIn}
+use Rattle.line_device.specs.History.{IsTorn}
 use Rattle.line_device.specs.Medium.{Medium, WritesBack}
-use Rattle.line_device.proofs.HistoryLemmas.{is_in-word_write_back}
+use Rattle.line_device.proofs.TornLemmas.{torn-word_write_back}
 use Rattle.line_words.specs.Words.{WritesBackOutside}
-use Rattle.line_words.proofs.FrameLemmas.{is_in-outside}
 use Rattle.word_tables.specs.declared.geometry.Geometry.{Geometry}
 use Rattle.word_tables.specs.Bounds.{IsValid}
 use Rattle.word_tables.specs.Layout.{size, meta_lines}
@@ -88,7 +87,7 @@ keeps_reads-write_back geo old new x image is =
     let marks : new.is_bad ≡ old.is_bad = λ i n. x.bad n i in
     record {
       before = image;
-      was = λ p place good. is_in-word_write_back (old.is_weak (p / 8)) (image p) (old.history p) (new.history p) (x.word_write_back p) (is p place (x.bad (p / 8) ∙ good));
+      was = λ p place good. torn-word_write_back (old.is_weak (p / 8)) (image p) (old.history p) (new.history p) (x.word_write_back p) (is p place (x.bad (p / 8) ∙ good));
       same = inl (λ p of. refl);
       reads = λ r.
           record {
@@ -136,13 +135,14 @@ block_place geo p valid is =
 -- Only words of the metadata are changed.
 module _ (geo : Geometry) (inside : ℕ → Type 0) (in_meta : (p : ℕ) → inside p → p / 8 < meta_lines geo) (old new : Medium) (valid : IsValid geo) (x : WritesBackOutside inside old new) (image before : ℕ → ℕ) where
   -- an image before the mount, of what one after it came from
-  joined_image : ((p : ℕ) → IsOf (block_area geo) p → IsIn (before p) (old.history p)) → IsBlockImage geo new image → IsBlockImage geo old (joined geo before image)
+  joined_image : ((p : ℕ) → IsOf (block_area geo) p → IsTorn (before p) (old.history p)) → IsBlockImage geo new image → IsBlockImage geo old (joined geo before image)
   joined_image was is p place good =
-      elim (block_place geo p valid place) as (λ _. IsIn (joined geo before image p) (old.history p)) [
-        | inl of ↦ subst (λ v. IsIn v (old.history p)) (sym (joined-in geo before image p (area_in_metadata geo valid p of))) (was p of)
+      elim (block_place geo p valid place) as (λ _. IsTorn (joined geo before image p) (old.history p)) [
+        | inl of ↦ subst (λ v. IsTorn v (old.history p)) (sym (joined-in geo before image p (area_in_metadata geo valid p of))) (was p of)
         | inr behind ↦
-            subst (λ v. IsIn v (old.history p)) (sym (joined-out geo before image p behind))
-            (is_in-outside inside old new p (image p) x (λ of. let meta = in_meta p of in omega arith) (is p place (x.bad (p / 8) ∙ good)))
+            subst (λ v. IsTorn v (old.history p)) (sym (joined-out geo before image p behind))
+            (torn-word_write_back (old.is_weak (p / 8)) (image p) (old.history p) (new.history p)
+            (x.word_write_back p (λ of. let meta = in_meta p of in omega arith)) (is p place (x.bad (p / 8) ∙ good)))
       ]
 
   -- they read alike

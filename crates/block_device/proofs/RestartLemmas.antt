@@ -1,11 +1,12 @@
 -- What the blocks read as when the power came back, and while it stays off.
 use Rattle.std.proofs.Common.{◌≡◌, inl, inr, ℕ, Bool, true, false, ◌/◌, ◌<◌, List, [], ◌∷◌, refl, sym, ◌∙◌, ap, subst, arith}
-use Rattle.line_device.specs.History.{newest, IsIn}
+use Rattle.line_device.specs.History.{newest, IsIn, IsTorn}
 use Rattle.line_device.specs.Medium.{Medium, IsHealthy, IsSound, Survivors, Waits, last_image}
 use Rattle.line_device.specs.Panel.{Image}
 use Rattle.line_device.specs.Device.{Depicts}
 use Rattle.line_device.specs.declared.line.Choice.{Choice}
 use Rattle.line_device.proofs.HistoryLemmas.{is_in-one, is_in-word_write_back, newest-word_write_back}
+use Rattle.line_device.proofs.TornLemmas.{torn-in, torn-one, torn-word_write_back}
 use Rattle.line_words.specs.Words.{IsOnly}
 use Rattle.word_tables.specs.declared.geometry.Geometry.{Geometry}
 use Rattle.word_tables.specs.Bounds.{IsValid}
@@ -41,7 +42,7 @@ module _ (geo : Geometry) (valid : IsValid geo) where
 
   -- the last values are an image
   pub block_image-last : (m : Medium) → IsSound m → m.count ≡ total_lines geo → IsBlockImage geo m (last_image m)
-  block_image-last m sound count p of good = sound.last p (block_healthy m p count of good)
+  block_image-last m sound count p of good = torn-in (last_image m p) (m.history p) (sound.last p (block_healthy m p count of good))
 
   pub blocks_read-last : (m : Medium) (found : List Block) → IsSound m → m.count ≡ total_lines geo → EachReads geo m (λ bs. bs ≡ found) → blocks_read geo m.is_bad (last_image m) ≡ found
   blocks_read-last m found sound count each = (each (last_image m) (block_image-last m sound count)).blocks
@@ -52,7 +53,7 @@ module _ (geo : Geometry) (valid : IsValid geo) where
       let healthy = block_healthy old p count of good in
       let survived = x.words p healthy in
       let word = shows.words p (subst (λ c. p / 8 < c) (sym x.count) healthy.0, x.bad (p / 8) ∙ good) in
-      subst (λ v. IsIn v (old.history p)) (ap newest (sym survived.1.one ∙ word)) survived.1.was
+      torn-in (image.word p) (old.history p) (subst (λ v. IsIn v (old.history p)) (ap newest (sym survived.1.one ∙ word)) survived.1.was)
 
   pub blocks_read-restarted : (choice : Choice) (old new : Medium) (image : Image) (P : List Block → Type 0) → old.count ≡ total_lines geo → Survivors choice old new → Depicts new image → EachReads geo old P → P (blocks_read geo image.is_bad image.word)
   blocks_read-restarted choice old new image P count x shows each =
@@ -73,7 +74,7 @@ module _ (geo : Geometry) (valid : IsValid geo) where
         bad = λ n _. x.bad n;
         was = λ p v of good at.
             let survived = x.words p (block_healthy old p count of good) in
-            subst (λ w. IsIn w (old.history p)) (sym (is_in-one v survived.0 (subst (IsIn v) survived.1.one at))) survived.1.was;
+            subst (λ w. IsTorn w (old.history p)) (sym (torn-one survived.0 v (subst (IsTorn v) survived.1.one at))) (torn-in survived.0 (old.history p) survived.1.was);
         durable = λ p has _. one_value p (inr (inr has)) (old.is_bad (p / 8)) refl;
       })
     where
@@ -90,9 +91,9 @@ module _ (geo : Geometry) (valid : IsValid geo) where
       (record {
         bad = λ n _. x.bad n;
         was = λ p v _ _ at.
-            elim (x.words p) as (λ _. IsIn v (old.history p)) [
-              | inl word_write_back ↦ is_in-word_write_back (old.is_weak (p / 8)) v (old.history p) (new.history p) word_write_back at
-              | inr one ↦ subst (λ w. IsIn w (old.history p)) (sym (is_in-one v one.0 (subst (IsIn v) one.2 at))) one.1
+            elim (x.words p) as (λ _. IsTorn v (old.history p)) [
+              | inl word_write_back ↦ torn-word_write_back (old.is_weak (p / 8)) v (old.history p) (new.history p) word_write_back at
+              | inr one ↦ subst (λ w. IsTorn w (old.history p)) (sym (torn-one one.0 v (subst (IsTorn v) one.2 at))) (torn-in one.0 (old.history p) one.1)
             ];
         durable = λ p _ only.
             elim (x.words p) as (λ _. IsOnly (last_image new p) (new.history p)) [

@@ -3,6 +3,7 @@ use Rattle.std.proofs.Common.{◌≡◌, inr, ℕ, zero, suc, Bool, true, false,
 use Rattle.line_device.specs.History.{IsIn}
 use Rattle.line_device.specs.Medium.{Medium, WritesBack, zeros}
 use Rattle.line_device.proofs.HistoryLemmas.{is_in-one, is_in-word_write_back}
+use Rattle.line_device.proofs.TornLemmas.{torn-only}
 use Rattle.word_tables.specs.declared.geometry.Geometry.{Geometry}
 use Rattle.word_tables.specs.Bounds.{IsValid}
 use Rattle.word_tables.specs.Layout.{total_lines}
@@ -78,7 +79,7 @@ module _ (geo : Geometry) (valid : IsValid geo) where
     zeros_replay : (image : ℕ → ℕ) → IsBlockImage geo m image → Replays (block_area geo) image (λ _. 0)
     zeros_replay image is =
         let area = block_area geo in
-        let word : (p : ℕ) → IsBlockPlace geo p → image p ≡ 0 = λ p of. zero_word p (image p) (is p of (x.bad (p / 8))) in
+        let word : (p : ℕ) → IsBlockPlace geo p → image p ≡ 0 = λ p of. torn-only 0 (image p) (m.history p) (zero_word p) (is p of (x.bad (p / 8))) in
         replays_closed area image (λ _. 0)
         (word (gate_place area) (area_is_block geo valid (gate_place area) (gate_of area m (area_fits geo valid m (x.count ∙ total)))))
         (λ p in_home. word p (area_is_block geo valid p (inr in_home)))

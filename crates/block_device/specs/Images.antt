@@ -1,6 +1,6 @@
 -- What the images that a cut may leave stand for.
 use Rattle.std.specs.Prelude.{◌≡◌, ◌⊎◌, ◌/◌, ℕ, false, List, None}
-use Rattle.line_device.specs.History.{IsIn}
+use Rattle.line_device.specs.History.{IsTorn}
 use Rattle.line_device.specs.Medium.{Medium}
 use Rattle.word_tables.specs.declared.geometry.Geometry.{Geometry}
 use Rattle.word_log.specs.Area.{IsOf}
@@ -12,9 +12,9 @@ use Rattle.block_device.specs.Area.{block_area, IsBlockPlace}
 use Rattle.block_device.specs.Reading.{states_read, blocks_read}
 use Rattle.block_device.specs.Object.{AreDurable}
 
--- one value for each healthy word of log, map and units
+-- one value for each healthy word of log, map and units, such as a cut may leave them
 abbrev pub IsBlockImage : Geometry → Medium → (ℕ → ℕ) → Type 0
-IsBlockImage geo m image = (p : ℕ) → IsBlockPlace geo p → m.is_bad (p / 8) ≡ false → IsIn (image p) (m.history p)
+IsBlockImage geo m image = (p : ℕ) → IsBlockPlace geo p → m.is_bad (p / 8) ≡ false → IsTorn (image p) (m.history p)
 
 -- such an image has a valid log and a map, what it names is durable, and its blocks are like that
 pub record ReadsAs (geo : Geometry) (m : Medium) (P : List Block → Type 0) (image : ℕ → ℕ) : Type 0 where

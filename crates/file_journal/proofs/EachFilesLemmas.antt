@@ -1,7 +1,7 @@
 -- What each image reads as files, while lines of other areas are worked on, and where a mount replays the log.
 use Rattle.std.proofs.Common.{ℕ, ◌/◌, inl, List, refl, arith}
 use Rattle.line_device.specs.Medium.{Medium}
-use Rattle.line_device.proofs.HistoryLemmas.{is_in-part}
+use Rattle.line_device.proofs.TornLemmas.{torn-part}
 use Rattle.word_tables.specs.declared.geometry.Geometry.{Geometry}
 use Rattle.word_tables.specs.Bounds.{IsValid}
 use Rattle.word_tables.specs.Layout.{file_pages, size, HasLine}
@@ -24,7 +24,7 @@ gate_of_files geo = inl (omega arith, omega arith)
 -- images of a medium whose words were only written back were its own
 pub file_images-kept : (geo : Geometry) (old new : Medium) → ((p : ℕ) → IsOf (file_area geo) p → LineKept old new (p / 8)) → (image : ℕ → ℕ)
     → IsImageOn (file_area geo) new image → IsImageOn (file_area geo) old image
-file_images-kept geo old new kept image is p of = is_in-part (image p) _ _ ((kept p of).words p refl).part (is p of)
+file_images-kept geo old new kept image is p of = torn-part (image p) _ _ ((kept p of).words p refl).part (is p of)
 
 -- an image that replays to the same words reads as the same files, while the lines of units are only written back
 read_on : (geo : Geometry) (old new : Medium) (P Q : List File → Type 0) (before image : ℕ → ℕ) → ((n : ℕ) → HasLine geo file_pages n → LineKept old new n) → (was : ReadsFiles geo old P before)

@@ -3,6 +3,7 @@ use Rattle.std.proofs.Common.{◌≡◌, ℕ, ◌/◌, ◌<◌, List, None, sym,
 use Rattle.line_device.specs.Device.{Depicts}
 use Rattle.line_device.specs.Medium.{IsSound, Medium, last_image}
 use Rattle.line_device.specs.Panel.{Image}
+use Rattle.line_device.proofs.TornLemmas.{torn-in}
 use Rattle.nvm_base.proofs.FirstLemmas.{neither_there}
 use Rattle.word_tables.specs.declared.geometry.Geometry.{Geometry}
 use Rattle.word_tables.specs.Bounds.{IsValid}
@@ -26,7 +27,7 @@ use Rattle.file_journal.proofs.TableReadLemmas.{length-words_read, no_wrong_file
 pub file_image-last : (geo : Geometry) (m : Medium) → IsValid geo → m.count ≡ total_lines geo → AreGood m (meta_lines geo) → IsSound m → IsImageOn (file_area geo) m (last_image m)
 file_image-last geo m valid count good sound p of =
     let on : p / 8 < m.count = subst (λ c. p / 8 < c) (sym count) (files_within geo (p / 8) (area_of_files geo p of)) in
-    sound.last p (on, good (p / 8) (area_in_metadata geo valid p of))
+    torn-in (last_image m p) (m.history p) (sound.last p (on, good (p / 8) (area_in_metadata geo valid p of)))
 
 -- nothing is wrong with an image that reads as files
 pub nothing_wrong_in : (geo : Geometry) (m : Medium) (P : List File → Type 0) (image : ℕ → ℕ) → ReadsFiles geo m P image → wrong_file_place geo image ≡ None

@@ -1,11 +1,11 @@
 -- The files that a device stands for once the power came back: each word has one of its values.
 use Rattle.std.proofs.Common.{◌≡◌, ℕ, ◌/◌, ◌<◌, List, None, refl, sym, subst, ◌∙◌}
-use Rattle.line_device.specs.History.{IsIn}
+use Rattle.line_device.specs.History.{IsIn, IsTorn}
 use Rattle.line_device.specs.Medium.{IsHealthy, Medium, Survivors}
 use Rattle.line_device.specs.Panel.{Image}
 use Rattle.line_device.specs.Device.{Depicts}
 use Rattle.line_device.specs.declared.line.Choice.{Choice}
-use Rattle.line_device.proofs.HistoryLemmas.{is_in-one}
+use Rattle.line_device.proofs.TornLemmas.{torn-in, torn-one}
 use Rattle.nvm_base.proofs.FirstLemmas.{neither_there}
 use Rattle.word_tables.specs.declared.geometry.Geometry.{Geometry}
 use Rattle.word_tables.specs.Bounds.{IsValid}
@@ -75,7 +75,7 @@ module _ (geo : Geometry) (m : Medium) (image : Image) (valid : IsValid geo) (co
   pub shown_words : (word : ℕ → ℕ) → IsImageOn (file_area geo) m word → (p : ℕ) → IsOf (file_area geo) p → word p ≡ image.word p
   shown_words word is p of =
       let on : p / 8 < m.count = subst (λ c. p / 8 < c) (sym count) (files_within geo (p / 8) (area_of_files geo p of)) in
-      is_in-one (word p) (image.word p) (subst (IsIn (word p)) (shows.words p (on, good (p / 8) (area_in_metadata geo valid p of))) (is p of))
+      torn-one (image.word p) (word p) (subst (IsTorn (word p)) (shows.words p (on, good (p / 8) (area_in_metadata geo valid p of))) (is p of))
 
   -- so each that is valid reads as the tables that are
   pub tables_depicted : (word : ℕ → ℕ) → IsImageOn (file_area geo) m word → first_wrong (file_area geo) word ≡ None → tables_read geo image.word ≡ tables_read geo word
@@ -130,7 +130,7 @@ files_back choice geo old mid image P valid count good each left shows = record 
         let back : IsHealthy mid (p / 8) = (subst (λ c. p / 8 < c) (sym left.count) on, left.bad (p / 8) ∙ healthy.1) in
         let word = left.words p healthy in
         let one : image.word p ≡ word.0 = cc (word.1.one, shows.words p back) in
-        subst (λ v. IsIn v (old.history p)) (sym one) word.1.was
+        torn-in (image.word p) (old.history p) (subst (λ v. IsIn v (old.history p)) (sym one) word.1.was)
 
     were : ReadsFiles geo old P image.word
     were = each image.word start_was

@@ -1,4 +1,5 @@
 pub mod HistoryLemmas
+pub mod TornLemmas
 pub mod WordLemmas
 pub mod PutLemmas
 pub mod PanelLemmas

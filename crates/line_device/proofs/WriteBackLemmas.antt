@@ -1,10 +1,11 @@
 -- Lines that are written back: what stays of them, and that each effect of a call keeps one write-back after another.
-use Rattle.std.proofs.Common.{◌≡◌, ◌⊎◌, inl, inr, ℕ, Bool, true, false, ◌/◌, ◌%◌, ◌<◌, ◌==◌, List, [], ◌∷◌, ◌++◌, length, if◌then◌else◌, refl, sym, ◌∙◌, ap, subst}
+use Rattle.std.proofs.Common.{◌≡◌, inl, inr, ℕ, Bool, true, false, ◌/◌, ◌%◌, ◌<◌, ◌==◌, List, [], ◌∷◌, ◌++◌, length, if◌then◌else◌, refl, sym, ◌∙◌, ap, subst}
 use Rattle.std.proofs.lemmas.Bool.{cases_eq, eq-eqb, ne_eqb}
 use Rattle.line_device.specs.Word.{word_over, reaches}
-use Rattle.line_device.specs.History.{latest, newest, IsIn, WordWritesBack}
+use Rattle.line_device.specs.History.{latest, newest, WordWritesBack}
 use Rattle.line_device.specs.Medium.{Medium, WritesBack, IsHealthy, IsSound, IsImage, last_image, with_at, on_line, word_stored, stored, renewed, poisoned, flushed, persisted, cleared, IsBetweenWriteBacks}
-use Rattle.line_device.proofs.HistoryLemmas.{word_write_back-refl, word_write_back-trans, word_write_back-latest, word_write_back-latest_both, word_write_back-push, newest-word_write_back, is_in-word_write_back, is_in-push, is_in-latest}
+use Rattle.line_device.proofs.HistoryLemmas.{word_write_back-refl, word_write_back-trans, word_write_back-latest, word_write_back-latest_both, word_write_back-push, newest-word_write_back}
+use Rattle.line_device.proofs.TornLemmas.{torn-in, torn-word_write_back}
 
 pub write_back-refl : (m : Medium) → WritesBack m m
 write_back-refl m = record { count = refl; bad = λ _. refl; weak = λ _. refl; word_write_back = λ p. word_write_back-refl (m.is_weak (p / 8)) (m.history p) }
@@ -119,32 +120,13 @@ is_healthy-back a b n x h = (subst (λ c. n < c) x.count h.0, sym (x.bad n) ∙ 
 -- a cut after some writing_back leaves what one before might have left
 pub is_image-write_back : (a b : Medium) (image : ℕ → ℕ) → WritesBack a b → IsImage b image → IsImage a image
 is_image-write_back a b image x is p healthy =
-    is_in-word_write_back (a.is_weak (p / 8)) (image p) (a.history p) (b.history p) (x.word_write_back p) (is p (is_healthy-write_back a b (p / 8) x healthy))
+    torn-word_write_back (a.is_weak (p / 8)) (image p) (a.history p) (b.history p) (x.word_write_back p) (is p (is_healthy-write_back a b (p / 8) x healthy))
 
 pub is_image-last : (m : Medium) → IsSound m → IsImage m (last_image m)
-is_image-last m sound p healthy = sound.last p healthy
+is_image-last m sound p healthy = torn-in (last_image m p) (m.history p) (sound.last p healthy)
 
 pub newest-write_back : (a b : Medium) → WritesBack a b → (p : ℕ) → newest (b.history p) ≡ newest (a.history p)
 newest-write_back a b x p = newest-word_write_back (a.is_weak (p / 8)) (a.history p) (b.history p) (x.word_write_back p)
-
--- what a cut may leave of a word of a line that was stored to, and of the others
-pub is_image-stored_in : (m : Medium) (line at : ℕ) (bytes : List ℕ) (image : ℕ → ℕ) → IsImage (stored m line at bytes) image → (p : ℕ) → IsHealthy m (p / 8) → p / 8 ≡ line → IsIn (image p) (m.history p) ⊎ (image p ≡ word_over at bytes (p % 8) (newest (m.history p)))
-is_image-stored_in m line at bytes image is p healthy on =
-    let value = word_over at bytes (p % 8) (newest (m.history p)) in
-    let left = subst (IsIn (image p)) (on_line-in line (word_stored at bytes) m.history p on) (is p healthy) in
-    (elim (reaches at (length bytes) (p % 8)) as (λ c. IsIn (image p) (if c then m.history p ++ value ∷ [] else m.history p) → IsIn (image p) (m.history p) ⊎ (image p ≡ value)) [
-      | true ↦ λ h. is_in-push (image p) value (m.history p) h
-      | false ↦ λ h. inl h
-    ]) left
-
-pub is_image-stored_out : (m : Medium) (line at : ℕ) (bytes : List ℕ) (image : ℕ → ℕ) → IsImage (stored m line at bytes) image → (p : ℕ) → IsHealthy m (p / 8) → (p / 8 ≡ line → ⊥) → IsIn (image p) (m.history p)
-is_image-stored_out m line at bytes image is p healthy out = subst (IsIn (image p)) (on_line-out line (word_stored at bytes) m.history p out) (is p healthy)
-
--- after a persist a cut leaves the last values of the line
-pub is_image-flushed_in : (m : Medium) (line : ℕ) (image : ℕ → ℕ) → IsSound m → IsImage (flushed m line) image → (p : ℕ) → IsHealthy m (p / 8) → p / 8 ≡ line → image p ≡ newest (m.history p)
-is_image-flushed_in m line image sound is p healthy on =
-    let left = subst (IsIn (image p)) (on_line-in line (λ _ old. latest old) m.history p on) (is p healthy) in
-    is_in-latest (image p) (m.history p) left
 
 pub is_between_write_backs : (effect : Medium → Medium) → ((a b : Medium) → WritesBack a b → WritesBack (effect a) (effect b)) → IsBetweenWriteBacks effect
 is_between_write_backs effect keeps old new =

@@ -1,5 +1,6 @@
 -- The values that a word has had since it was last made durable: the first is durable, the last is what a load gives.
 use Rattle.std.specs.Prelude.{◌≡◌, ◌⊎◌, ℕ, Bool, List, [], ◌∷◌, take, IsTrue}
+use Rattle.std.specs.Int.{byte_at}
 
 -- the last value alone
 abbrev pub latest : List ℕ → List ℕ
@@ -17,6 +18,10 @@ newest (x ∷ y ∷ ys) = newest (y ∷ ys)
 abbrev pub IsIn : ℕ → List ℕ → Type 0
 IsIn v [] = ⊥
 IsIn v (x ∷ xs) = (v ≡ x) ⊎ IsIn v xs
+
+-- each byte of v is that byte of one of the values
+unfoldable pub IsTorn : ℕ → List ℕ → Type 0
+IsTorn v history = (k : ℕ) → (x : ℕ) × IsIn x history × (byte_at k v ≡ byte_at k x)
 
 -- `part` is `whole` with some values left out
 abbrev pub IsPart : List ℕ → List ℕ → Type 0

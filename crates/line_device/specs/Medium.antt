@@ -1,7 +1,7 @@
 -- The lines of a device, and what calls do to them. A word's place is 8 * line + word.
 use Rattle.std.specs.Prelude.{◌≡◌, ◌↔◌, ◌+◌, ◌*◌, ◌/◌, ◌%◌, ◌<◌, ◌≤◌, ◌^◌, ◌==◌, not, ℕ, Bool, true, false, List, [], ◌∷◌, ◌++◌, ◌⊎◌, length, if◌then◌else◌, nat_lt, IsTrue, take}
 use Rattle.line_device.specs.Word.{word_at, word_over, reaches}
-use Rattle.line_device.specs.History.{latest, newest, IsIn, WordWritesBack}
+use Rattle.line_device.specs.History.{latest, newest, IsIn, IsTorn, WordWritesBack}
 use Rattle.line_device.specs.declared.line.LineState.{LineState}
 use Rattle.line_device.specs.declared.line.LineState.TheVariants.{Healthy, Weak, Bad}
 use Rattle.line_device.specs.declared.line.Choice.{Choice}
@@ -26,9 +26,9 @@ pub record IsSound (m : Medium) : Type 0 where
   pub lost : (p : ℕ) → m.is_bad (p / 8) ≡ true → m.history p ≡ []
   pub unmarked : (n : ℕ) → m.is_bad n ≡ true → m.is_weak n ≡ false
 
--- one value for each place, such as a cut may leave them
+-- one value for each place, such as a cut may leave them, whether it keeps words whole or byte by byte
 abbrev pub IsImage : Medium → (ℕ → ℕ) → Type 0
-IsImage m image = (p : ℕ) → IsHealthy m (p / 8) → IsIn (image p) (m.history p)
+IsImage m image = (p : ℕ) → IsHealthy m (p / 8) → IsTorn (image p) (m.history p)
 
 -- the image of all last values
 abbrev pub last_image : Medium → ℕ → ℕ

@@ -15,7 +15,9 @@ mod words;
 pub use counts::Counts;
 pub use device::{LineDevice, Peek};
 pub use fault::{DeviceFault, ResetFault};
-pub use laws::{effects_stand_between_write_backs, write_back_leaves_fewer_images};
+pub use laws::{
+    a_cut_may_tear_a_word, effects_stand_between_write_backs, write_back_leaves_fewer_images,
+};
 pub use line::{Choice, LineList, LineState};
 pub use lines::Lines;
 pub use order::Order;

@@ -15,8 +15,8 @@ use Rattle.pm_volume.specs.Presence.{presence_read, presence_words}
 use Rattle.pm_volume.proofs.AreaLemmas.{area_in_metadata}
 use Rattle.pm_volume.proofs.StandingLemmas.{each_pages-then, line_of_volume, presence_read-replays, reads_same}
 use Rattle.std.proofs.lemmas.List.{length-map}
-use Rattle.line_device.specs.History.{IsIn}
-use Rattle.line_device.proofs.HistoryLemmas.{is_in-one}
+use Rattle.line_device.specs.History.{IsIn, IsTorn}
+use Rattle.line_device.proofs.TornLemmas.{torn-in, torn-one}
 use Rattle.word_log.specs.Replay.{Replays}
 use Rattle.word_log.specs.Rest.{IsImageOn}
 use Rattle.word_tables.specs.Layout.{volume_line}
@@ -62,13 +62,13 @@ module _ (h : Machine) (choice : Choice) (old mid : Medium) (image : Image) (was
       let back : IsHealthy mid (p / 8) = (subst (λ c. p / 8 < c) (sym left.count) on, left.bad (p / 8) ∙ healthy.1) in
       let word = left.words p healthy in
       let same : image.word p ≡ word.0 = cc (word.1.one, shows.words p back) in
-      subst (λ v. IsIn v (old.history p)) (sym same) word.1.was
+      torn-in (image.word p) (old.history p) (subst (λ v. IsIn v (old.history p)) (sym same) word.1.was)
 
   -- and the only one of what is after
   start_is : (word : ℕ → ℕ) → IsImageOn (volume_area geo) mid word → (p : ℕ) → IsOf (volume_area geo) p → word p ≡ image.word p
   start_is word is p of =
       let on : p / 8 < mid.count = subst (λ c. p / 8 < c) (sym layout_back.lines) (volume_within geo (p / 8) (area_of_volume geo p was.valid of)) in
-      is_in-one (word p) (image.word p) (subst (IsIn (word p)) (shows.words p (on, layout_back.good (p / 8) (area_in_metadata geo was.valid p of))) (is p of))
+      torn-one (image.word p) (word p) (subst (IsTorn (word p)) (shows.words p (on, layout_back.good (p / 8) (area_in_metadata geo was.valid p of))) (is p of))
 
   pages_were : ReadsPages geo old (MayLeaveVolume geo h.interrupted h.volume) image.word
   pages_were = volume_was image.word start_was

@@ -1,12 +1,12 @@
 -- What blocks, pages and files read as where the power just came back: each word has one value.
 use Rattle.std.proofs.Common.{◌≡◌, ℕ, inl, inr, ◌/◌, ◌<◌, ◌==◌, Bool, false, None, List, length, map, take, refl, sym, ◌∙◌, ap, subst, arith}
 use Rattle.std.proofs.lemmas.List.{length-map}
-use Rattle.line_device.specs.History.{newest, IsIn}
+use Rattle.line_device.specs.History.{newest, IsIn, IsTorn}
 use Rattle.line_device.specs.Medium.{Medium, IsSound, Survivors, last_image}
 use Rattle.line_device.specs.Panel.{Image}
 use Rattle.line_device.specs.Device.{Depicts}
 use Rattle.line_device.specs.declared.line.Choice.TheVariants.{Lasts}
-use Rattle.line_device.proofs.HistoryLemmas.{is_in-one}
+use Rattle.line_device.proofs.TornLemmas.{torn-one}
 use Rattle.word_tables.specs.declared.geometry.Geometry.{Geometry}
 use Rattle.word_tables.specs.Layout.{total_lines, volume_line}
 use Rattle.word_tables.specs.Words.{place, of_volume_page}
@@ -65,7 +65,7 @@ module _ (geo : Geometry) (m : Medium) (image : Image) (layout : IsGood geo m) (
   word_is : (word : ℕ → ℕ) → IsBlockImage geo m word → (p : ℕ) → IsBlockPlace geo p → m.is_bad (p / 8) ≡ false → image.word p ≡ word p
   word_is word is p of good =
       let on = there (p / 8) (block_on_device geo layout.valid (p / 8) of) in
-      sym (is_in-one (word p) (image.word p) (subst (IsIn (word p)) (shows.words p (on, good)) (is p of good)))
+      sym (torn-one (image.word p) (word p) (subst (IsTorn (word p)) (shows.words p (on, good)) (is p of good)))
 
   -- so each reads as the image that was told
   pub blocks_depicted : (word : ℕ → ℕ) (P : List Block → Type 0) → IsBlockImage geo m word → ReadsAs geo m P word → blocks_read geo m.is_bad word ≡ blocks_read geo image.is_bad image.word
@@ -134,7 +134,7 @@ module _ (geo : Geometry) (m : Medium) (image : Image) (layout : IsGood geo m) (
       same : (p : ℕ) → IsOf (volume_area geo) p → image.word p ≡ word p
       same p of =
           let on = there (p / 8) (volume_within geo (p / 8) (area_of_volume geo p layout.valid of)) in
-          sym (is_in-one (word p) (image.word p) (subst (IsIn (word p)) (shows.words p (on, layout.good (p / 8) (area_in_metadata geo layout.valid p of))) (is p of)))
+          sym (torn-one (image.word p) (word p) (subst (IsTorn (word p)) (shows.words p (on, layout.good (p / 8) (area_in_metadata geo layout.valid p of))) (is p of)))
 
   -- The volume that was mounted there stands for the pages that are read.
   pub holds_depicted : (new : Medium) (v : VolumeState) → IsSound m → first_wrong (volume_area geo) (last_image m) ≡ None → WritesBackOutside (IsOfLogs geo) m new → v.geo ≡ geo

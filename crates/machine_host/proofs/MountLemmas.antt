@@ -9,6 +9,7 @@ use Rattle.line_device.specs.Medium.{Medium, IsSound, Survivors, last_image}
 use Rattle.line_device.specs.Panel.{Panel, Outcome, Runs}
 use Rattle.line_device.specs.declared.line.Choice.{Choice}
 use Rattle.line_device.proofs.HistoryLemmas.{is_in-one}
+use Rattle.line_device.proofs.TornLemmas.{torn-in}
 use Rattle.line_device.proofs.PanelLemmas.{runs_within}
 use Rattle.line_words.specs.Words.{IsOnly, WritesBackOutside}
 use Rattle.word_tables.specs.declared.geometry.Geometry.{Geometry}
@@ -165,13 +166,13 @@ StopsMount fault.Memory = Unit {0}
 pub volume_image-last : (geo : Geometry) (m : Medium) → IsSound m → IsGood geo m → IsImageOn (volume_area geo) m (last_image m)
 volume_image-last geo m sound layout p of =
     let on : p / 8 < m.count = subst (λ c. p / 8 < c) (sym layout.lines) (volume_within geo (p / 8) (area_of_volume geo p layout.valid of)) in
-    sound.last p (on, layout.good (p / 8) (area_in_metadata geo layout.valid p of))
+    torn-in (last_image m p) (m.history p) (sound.last p (on, layout.good (p / 8) (area_in_metadata geo layout.valid p of)))
 
 -- and of the files' log and tables
 pub file_image-last : (geo : Geometry) (m : Medium) → IsSound m → IsGood geo m → IsImageOn (file_area geo) m (last_image m)
 file_image-last geo m sound layout p of =
     let on : p / 8 < m.count = subst (λ c. p / 8 < c) (sym layout.lines) (files_within geo (p / 8) (area_of_files geo p of)) in
-    sound.last p (on, layout.good (p / 8) (file.area_in_metadata geo layout.valid p of))
+    torn-in (last_image m p) (m.history p) (sound.last p (on, layout.good (p / 8) (file.area_in_metadata geo layout.valid p of)))
 
 -- Nothing is wrong with such a device.
 pub nothing_wrong_there : (geo : Geometry) (m : Medium) → IsGood geo m → IsTold geo m → IsSound m → AreReadable geo m → EachReadsPages geo m (λ _. Unit {0})

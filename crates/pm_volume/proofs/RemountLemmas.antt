@@ -6,6 +6,7 @@ use Rattle.line_device.specs.History.{IsIn, newest}
 use Rattle.line_device.specs.Medium.{IsHealthy, Medium, Survivors, last_image}
 use Rattle.line_device.specs.Panel.{Image}
 use Rattle.line_device.specs.declared.line.Choice.{Choice}
+use Rattle.line_device.proofs.TornLemmas.{torn-in}
 use Rattle.line_words.specs.Words.{WritesBackOutside}
 use Rattle.word_tables.specs.declared.geometry.Geometry.{Geometry}
 use Rattle.word_tables.specs.Bounds.{IsValid}
@@ -37,7 +38,7 @@ start_was geo valid choice old back count good left p of =
     let meta = area_in_metadata geo valid p of in
     let healthy : IsHealthy old (p / 8) = (omega (arith, meta, meta_within geo, count), good (p / 8) meta) in
     let word = left.words p healthy in
-    subst (λ v. IsIn v (old.history p)) (sym (ap newest word.1.one)) word.1.was
+    torn-in (last_image back p) (old.history p) (subst (λ v. IsIn v (old.history p)) (sym (ap newest word.1.one)) word.1.was)
 
 module _ (geo : Geometry) (valid : IsValid geo) (choice : Choice) (old back new : Medium) (image : Image) (count : old.count ≡ total_lines geo)
     (good : AreGood old (meta_lines geo)) (left : Survivors choice old back) (shows : Depicts back image)

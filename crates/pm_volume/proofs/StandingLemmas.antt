@@ -4,7 +4,7 @@ use Rattle.std.proofs.lemmas.List.{length-map}
 use Rattle.std.proofs.lemmas.Option.{slice_get_within}
 use Rattle.line_device.specs.History.{IsIn}
 use Rattle.line_device.specs.Medium.{Medium}
-use Rattle.line_device.proofs.HistoryLemmas.{is_in-part}
+use Rattle.line_device.proofs.TornLemmas.{torn-only, torn-part}
 use Rattle.word_tables.specs.declared.geometry.Geometry.{Geometry}
 use Rattle.word_tables.specs.Bounds.{IsValid}
 use Rattle.word_tables.specs.Layout.{presence, first_line, size, meta_lines, volume_line}
@@ -80,7 +80,7 @@ each_pages-then geo m P Q so each image is =
 -- images of a medium whose words were only written back were its own
 pub images-kept : (geo : Geometry) (old new : Medium) → ((p : ℕ) → IsOf (volume_area geo) p → LineKept old new (p / 8)) → (image : ℕ → ℕ) → IsImageOn (volume_area geo) new image
     → IsImageOn (volume_area geo) old image
-images-kept geo old new kept image is p of = is_in-part (image p) _ _ ((kept p of).words p refl).part (is p of)
+images-kept geo old new kept image is p of = torn-part (image p) _ _ ((kept p of).words p refl).part (is p of)
 
 words_are : (f : ℕ → ℕ) (n : ℕ) (there : List Bool) → ((k : ℕ) → k < length there → f (n + k) ≡ presence_word (slice_index_or there k false))
     → list_from f n (length there) ≡ map presence_word there
@@ -157,7 +157,10 @@ served_pages s m pages serves holds image is = record {
   is = refl;
   all = sym (length-map pages _) ∙ ap length holds.there ∙ serves.all;
   replays = replays_closed (volume_area s.geo) image (presence_words s.geo (presence_of pages))
-      (serves.rest.gate (image (gate_place (volume_area s.geo))) (is (gate_place (volume_area s.geo)) (gate_of_volume s.geo)))
-      (λ p home. serves.rest.home p home (image p) (is p (inr home)) ∙ ap (λ there. presence_words s.geo there p) (sym holds.there));
+      (torn-only 0 (image gate) (m.history gate) serves.rest.gate (is gate (gate_of_volume s.geo)))
+      (λ p home. torn-only _ (image p) (m.history p) (serves.rest.home p home) (is p (inr home)) ∙ ap (λ there. presence_words s.geo there p) (sym holds.there));
   stand = holds.stand;
 }
+  where
+    gate : ℕ
+    gate = gate_place (volume_area s.geo)

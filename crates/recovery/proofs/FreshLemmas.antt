@@ -1,7 +1,7 @@
 -- A device that was made anew.
 use Rattle.std.proofs.Common.{◌≡◌, ◌/◌, ◌%◌, ◌==◌, ◌<◌, ◌≤◌, inl, inr, ℕ, Bool, true, false, List, [], ◌∷◌, None, Result, Ok, Err, OnOk, if◌then◌else◌, refl, sym, ◌∙◌, ap, subst, arith}
 use Rattle.std.proofs.lemmas.Bool.{cases_lt, lt-ltb}
-use Rattle.line_device.specs.History.{newest, IsIn, WordWritesBack}
+use Rattle.line_device.specs.History.{newest, IsIn, IsTorn, WordWritesBack}
 use Rattle.line_device.specs.Medium.{Medium, WritesBack, IsSound, last_image, zeros, installed, with_at}
 use Rattle.line_device.specs.Word.{word_at}
 use Rattle.line_device.specs.declared.line.LineState.TheVariants.{Healthy}
@@ -113,7 +113,7 @@ module _ (geo : Geometry) (m : Medium) (fresh : IsFresh geo m) where
         bad = λ n _. fresh.good n;
         was = λ p v of _ at.
             let word = block_word p of in
-            subst (IsIn v) (sym word.1) (subst (IsIn v) word.0 at);
+            subst (IsTorn v) (sym word.1) (subst (IsTorn v) word.0 at);
         durable = λ p has _. is_only_one 0 (m.history p) (block_word p (inr (inr has))).0;
       })
       (zeros_read geo fresh.valid (total_lines geo) (zeros (total_lines geo)) refl (write_back-refl (zeros (total_lines geo))))

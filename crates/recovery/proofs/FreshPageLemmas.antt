@@ -2,9 +2,9 @@
 use Rattle.std.proofs.Common.{◌≡◌, ◌+◌, ◌-◌, ◌*◌, ◌/◌, ◌%◌, ◌<◌, ◌≤◌, inl, inr, ℕ, zero, suc, false, List, [], ◌∷◌, get_or, nat_lt, slice_get, Option, Some, None, option_map, option_and_then, if◌then◌else◌, refl, sym, ◌∙◌, ap, subst, arith}
 use Rattle.std.proofs.lemmas.Bool.{lt-ltb, le-ltb}
 use Rattle.std.proofs.lemmas.Option.{none-some, same_Some}
-use Rattle.line_device.specs.History.{newest, IsIn}
+use Rattle.line_device.specs.History.{newest, IsTorn}
 use Rattle.line_device.specs.Medium.{Medium, last_image}
-use Rattle.line_device.proofs.HistoryLemmas.{is_in-one}
+use Rattle.line_device.proofs.TornLemmas.{torn-one}
 use Rattle.word_tables.specs.declared.geometry.Geometry.{Geometry}
 use Rattle.word_tables.specs.Layout.{first_line, presence, size, volume_line}
 use Rattle.word_tables.specs.Superblock.{superblock_word}
@@ -64,8 +64,8 @@ module _ (geo : Geometry) (m : Medium) (fresh : IsFresh geo m) where
   only_zero p of =
       fresh.words p (omega (arith, logs_in_metadata geo fresh.valid p of, meta_within geo, fresh.count)) ∙ ap (λ v. v ∷ []) (fresh-later geo p (logs_behind geo p of))
 
-  pub zero_in : (v p : ℕ) → IsOfLogs geo p → IsIn v (m.history p) → v ≡ 0
-  zero_in v p of at = is_in-one v 0 (subst (IsIn v) (only_zero p of) at)
+  pub zero_in : (v p : ℕ) → IsOfLogs geo p → IsTorn v (m.history p) → v ≡ 0
+  zero_in v p of torn = torn-one 0 v (subst (IsTorn v) (only_zero p of) torn)
 
   pub zero_last : (p : ℕ) → IsOfLogs geo p → last_image m p ≡ 0
   zero_last p of = ap newest (only_zero p of)

@@ -1,9 +1,10 @@
 -- A replay of one log leaves the others, and what is told of them.
-use Rattle.std.proofs.Common.{◌≡◌, ◌⊎◌, inl, inr, ℕ, ◌+◌, List, None, refl, sym, ◌∙◌, subst, arith}
+use Rattle.std.proofs.Common.{◌≡◌, ◌⊎◌, inl, inr, ℕ, ◌+◌, ◌/◌, List, None, refl, sym, ◌∙◌, subst, arith}
 use Rattle.line_device.specs.Medium.{Medium, WritesBack, last_image}
+use Rattle.line_device.proofs.TornLemmas.{torn-word_write_back}
 use Rattle.line_device.proofs.WriteBackLemmas.{newest-write_back, write_back-trans}
 use Rattle.line_words.specs.Words.{IsOnly, WritesBackOutside}
-use Rattle.line_words.proofs.FrameLemmas.{is_in-outside, newest-outside, outside-trans, outside-wider, outside-write_back}
+use Rattle.line_words.proofs.FrameLemmas.{newest-outside, outside-trans, outside-wider, outside-write_back}
 use Rattle.word_tables.specs.declared.geometry.Geometry.{Geometry}
 use Rattle.word_tables.specs.Bounds.{IsValid}
 use Rattle.word_log.specs.declared.area.LogArea.{LogArea}
@@ -25,7 +26,11 @@ use Rattle.recovery.proofs.LogLemmas.{IsLogOf, blocks_files, blocks_volume, of_e
 -- work elsewhere
 module _ (a : LogArea) (inside : ℕ → Type 0) (old new : Medium) (x : WritesBackOutside inside old new) (apart : (p : ℕ) → IsOf a p → inside p → ⊥) where
   pub each_kept : EachImage a new (IsReached a old)
-  each_kept image is = record { before = image; was = λ p of. is_in-outside inside old new p (image p) x (apart p of) (is p of); same = inl (λ p of. refl) }
+  each_kept image is = record {
+    before = image;
+    was = λ p of. torn-word_write_back (old.is_weak (p / 8)) (image p) (old.history p) (new.history p) (x.word_write_back p (apart p of)) (is p of);
+    same = inl (λ p of. refl);
+  }
 
   -- a log that is in order stays so, and replays to the same words
   pub replays_still : IsShaped a → first_wrong a (last_image old) ≡ None → Replays a (last_image new) (replayed a (last_image old))

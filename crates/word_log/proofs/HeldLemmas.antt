@@ -3,6 +3,7 @@ use Rattle.std.proofs.Common.{◌≡◌, ◌⊎◌, inl, inr, ℕ, List, refl, s
 use Rattle.line_device.specs.History.{IsIn}
 use Rattle.line_device.specs.Medium.{Medium, WritesBack}
 use Rattle.line_words.specs.Words.{IsOnly}
+use Rattle.line_device.proofs.TornLemmas.{torn-only}
 use Rattle.word_log.specs.declared.area.LogArea.{LogArea}
 use Rattle.word_log.specs.Area.{IsHome, IsOf, gate_place}
 use Rattle.word_log.specs.Changes.{changed}
@@ -25,7 +26,7 @@ rest-kept a words old new gate fewer rest = record {
 
 -- and each image replays to them
 pub images_at_rest : (a : LogArea) (words : ℕ → ℕ) (m : Medium) → IsOf a (gate_place a) → IsAtRest a m words → EachImage a m (λ image. Replays a image words)
-images_at_rest a words m gate rest image is = image_closed a words image m rest.home is (rest.gate (image (gate_place a)) (is (gate_place a) gate))
+images_at_rest a words m gate rest image is = image_closed a words image m rest.home is (torn-only 0 (image (gate_place a)) (m.history (gate_place a)) rest.gate (is (gate_place a) gate))
 
 module _ {T : Type 0} (a : LogArea) (held : (ℕ → ℕ) → T → Type 0) where
   pub rests-kept : (old new : Medium) (t : T) → IsOf a (gate_place a) → ((p : ℕ) → IsOf a p → (v : ℕ) → IsIn v (new.history p) → IsIn v (old.history p)) → RestsWith a held old t → RestsWith a held new t

@@ -3,7 +3,7 @@ use Rattle.std.proofs.Common.{◌≡◌, inl, inr, ℕ, ◌+◌, ◌-◌, ◌*�
 use Rattle.std.proofs.lemmas.List.{get_or-append_right, get_or_append_left, length-append}
 use Rattle.std.proofs.lemmas.Bool.{cases_lt}
 use Rattle.line_device.specs.Medium.{Medium, IsHealthy, IsSound, WritesBack, last_image}
-use Rattle.line_device.proofs.HistoryLemmas.{is_in-word_write_back}
+use Rattle.line_device.proofs.TornLemmas.{torn-word_write_back}
 use Rattle.line_words.specs.Words.{WritesBackOutside}
 use Rattle.word_log.specs.Rest.{EachImage, IsAtRest, IsReached}
 use Rattle.word_log.proofs.FrameLemmas.{fits-outside, whole-outside}
@@ -33,7 +33,7 @@ line_more f k xs ys all each eight more = (
 
 -- what images say after loads
 pub images-write_back : (a : LogArea) (old now new : Medium) → EachImage a now (IsReached a old) → WritesBack now new → EachImage a new (IsReached a old)
-images-write_back a old now new images x image at = images image (λ p of. is_in-word_write_back (now.is_weak (p / 8)) (image p) (now.history p) (new.history p) (x.word_write_back p) (at p of))
+images-write_back a old now new images x image at = images image (λ p of. torn-word_write_back (now.is_weak (p / 8)) (image p) (now.history p) (new.history p) (x.word_write_back p) (at p of))
 
 -- the words loaded from a log at rest
 pub words_at_rest : (a : LogArea) (old now : Medium) (word : ℕ → ℕ) (words : List ℕ) → Fits a old → IsWhole a old → WritesBackOutside (IsOf a) old now → IsSound now → IsAtRest a now word → AreHomeWords a (last_image now) words → AreHomeWords a word words

@@ -2,7 +2,7 @@
 use Rattle.std.proofs.Common.{◌≡◌, ◌⊎◌, inl, inr, ℕ, false, None, ◌/◌, ◌<◌, ◌≤◌, List, length, IsTrue, sym, ◌∙◌, subst, arith}
 use Rattle.line_device.specs.History.{IsIn}
 use Rattle.line_device.specs.Medium.{Medium, WritesBack, IsSound, last_image}
-use Rattle.line_device.proofs.HistoryLemmas.{is_in-word_write_back}
+use Rattle.line_device.proofs.TornLemmas.{torn-bit, torn-in, torn-only, torn-word_write_back}
 use Rattle.word_log.specs.declared.area.LogArea.{LogArea}
 use Rattle.word_log.specs.Area.{gate_place, count_place, entry_place, Fits, IsLog, IsHome, IsOf, IsWhole}
 use Rattle.word_log.specs.Changes.{changed, lists, MayCommit}
@@ -47,20 +47,20 @@ pub image_open : (a : LogArea) (cs : List (ℕ × ℕ)) (words image : ℕ → �
 image_open a cs words image m written home is gate =
     let recorded = written.recorded in
     replays_open a cs image words gate
-    (recorded.count (image (count_place a)) (is (count_place a) (inl (omega arith, omega (arith, written.fits.shape.len)))))
+    (torn-only (length cs) (image (count_place a)) (m.history (count_place a)) recorded.count (is (count_place a) (inl (omega arith, omega (arith, written.fits.shape.len)))))
     (entries-cong image (last_image m) (entry_place a 0) (length cs) (λ p from to.
     let behind = behind_gate-entries a cs m p written.fits written.taken.few from (omega arith) in
-    recorded.durable p from (omega arith) (image p) (is p (inl (behind_gate_of a p behind))))
+    torn-only (last_image m p) (image p) (m.history p) (recorded.durable p from (omega arith)) (is p (inl (behind_gate_of a p behind))))
     ∙ recorded.entries)
     written.taken
-    (λ p in_home out. home p in_home out (image p) (is p (inr in_home)))
+    (λ p in_home out. torn-only (words p) (image p) (m.history p) (home p in_home out) (is p (inr in_home)))
 
 -- an image with the gate closed
 pub image_closed : (a : LogArea) (words image : ℕ → ℕ) (m : Medium) → ((p : ℕ) → IsHome a p → IsOnly (words p) (m.history p)) → IsImageOn a m image → image (gate_place a) ≡ 0 → Replays a image words
-image_closed a words image m home is gate = replays_closed a image words gate (λ p in_home. home p in_home (image p) (is p (inr in_home)))
+image_closed a words image m home is gate = replays_closed a image words gate (λ p in_home. torn-only (words p) (image p) (m.history p) (home p in_home) (is p (inr in_home)))
 
 pub images_rest : (a : LogArea) (words : ℕ → ℕ) (m : Medium) → Fits a m → IsAtRest a m words → EachImage a m (λ image. Replays a image words)
-images_rest a words m fits rest image is = image_closed a words image m rest.home is (rest.gate (image (gate_place a)) (is (gate_place a) (gate_of a m fits)))
+images_rest a words m fits rest image is = image_closed a words image m rest.home is (torn-only 0 (image (gate_place a)) (m.history (gate_place a)) rest.gate (is (gate_place a) (gate_of a m fits)))
 
 -- entries are written behind a closed gate
 pub rest-outside : (a : LogArea) (words : ℕ → ℕ) (old new : Medium) → Fits a old → IsAtRest a old words → WritesBackOutside (IsBehindGate a) old new → IsAtRest a new words
@@ -81,14 +81,17 @@ images_opening a cs words old new written rest fits x either image is =
     let home : (p : ℕ) → IsHome a p → IsOnly (words p) (new.history p) =
     λ p in_home. is_only-outside (λ q. q ≡ gate_place a) old new p (words p) x (home_not_gate a old p written.fits in_home) (rest.home p in_home) in
     let now = written-outside a cs (λ q. q ≡ gate_place a) old new (not_gate a) fits written x in
-    elim (either (image (gate_place a)) (is (gate_place a) (gate_of a new fits))) as (λ _. Replays a image words ⊎ Replays a image (changed cs words)) [
-      | inl was ↦ inl (image_closed a words image new home is (rest.gate (image (gate_place a)) was))
+    elim (torn-bit (image (gate_place a)) (new.history (gate_place a)) (λ v at. bit-opening v (either v at)) (is (gate_place a) (gate_of a new fits))) as (λ _. Replays a image words ⊎ Replays a image (changed cs words)) [
+      | inl closed_ ↦ inl (image_closed a words image new home is closed_)
       | inr open_ ↦ inr (image_open a cs words image new now (λ p in_home _. home p in_home) is open_)
     ]
+  where
+    bit-opening : (v : ℕ) → IsIn v (old.history (gate_place a)) ⊎ (v ≡ 1) → (v ≡ 0) ⊎ (v ≡ 1)
+    bit-opening v h = elim h as (λ _. (v ≡ 0) ⊎ (v ≡ 1)) [ inl was ↦ inl (rest.gate v was) | inr is ↦ inr is ]
 
 pub images_open : (a : LogArea) (cs : List (ℕ × ℕ)) (words : ℕ → ℕ) (m : Medium) → IsOpen a cs words m → EachImage a m (λ image. Replays a image (changed cs words))
 images_open a cs words m open_ image is =
-    image_open a cs words image m open_.written open_.home is (open_.gate (image (gate_place a)) (is (gate_place a) (gate_of a m open_.written.fits)))
+    image_open a cs words image m open_.written open_.home is (torn-only 1 (image (gate_place a)) (m.history (gate_place a)) open_.gate (is (gate_place a) (gate_of a m open_.written.fits)))
 
 pub opened : (a : LogArea) (cs : List (ℕ × ℕ)) (words : ℕ → ℕ) (old new : Medium) → IsWritten a cs old → IsAtRest a old words → Fits a new → WritesBackOutside (λ p. p ≡ gate_place a) old new → IsOnly 1 (new.history (gate_place a)) → IsOpen a cs words new
 opened a cs words old new written rest fits x gate = record {
@@ -132,10 +135,13 @@ images_closing a cs words old new applied_ fits x either image is =
     let unlisted : (p : ℕ) → IsHome a p → lists cs p ≡ false → IsOnly (words p) (new.history p) =
     λ p in_home out. subst (λ v. IsOnly v (new.history p)) (changed-unlisted cs words p out) (home p in_home) in
     let now = written-outside a cs (λ q. q ≡ gate_place a) old new (not_gate a) fits written x in
-    elim (either (image (gate_place a)) (is (gate_place a) (gate_of a new fits))) as (λ _. Replays a image (changed cs words)) [
-      | inl was ↦ image_open a cs words image new now unlisted is (applied_.open_.gate (image (gate_place a)) was)
-      | inr closed_ ↦ image_closed a (changed cs words) image new home is closed_
+    elim (torn-bit (image (gate_place a)) (new.history (gate_place a)) (λ v at. bit-closing v (either v at)) (is (gate_place a) (gate_of a new fits))) as (λ _. Replays a image (changed cs words)) [
+      | inl closed_ ↦ image_closed a (changed cs words) image new home is closed_
+      | inr open_ ↦ image_open a cs words image new now unlisted is open_
     ]
+  where
+    bit-closing : (v : ℕ) → IsIn v (old.history (gate_place a)) ⊎ (v ≡ 0) → (v ≡ 0) ⊎ (v ≡ 1)
+    bit-closing v h = elim h as (λ _. (v ≡ 0) ⊎ (v ≡ 1)) [ inl was ↦ inr (applied_.open_.gate v was) | inr is ↦ inl is ]
 
 pub closed : (a : LogArea) (cs : List (ℕ × ℕ)) (words : ℕ → ℕ) (old new : Medium) → IsApplied a cs words old → WritesBackOutside (λ p. p ≡ gate_place a) old new → IsOnly 0 (new.history (gate_place a)) → IsAtRest a new (changed cs words)
 closed a cs words old new applied_ x gate = record {
@@ -166,7 +172,7 @@ on_device a m p fits of = elim of as (λ _. p / 8 < m.count) [ inl log ↦ omega
 pub reached_write_back : (a : LogArea) (old new : Medium) → WritesBack old new → EachImage a new (IsReached a old)
 reached_write_back a old new x image is = record {
   before = image;
-  was = λ p of. is_in-word_write_back (old.is_weak (p / 8)) (image p) (old.history p) (new.history p) (x.word_write_back p) (is p of);
+  was = λ p of. torn-word_write_back (old.is_weak (p / 8)) (image p) (old.history p) (new.history p) (x.word_write_back p) (is p of);
   same = inl (λ p of i. image p);
 }
 
@@ -174,7 +180,7 @@ reached_write_back a old new x image is = record {
 pub reached_last : (a : LogArea) (old : Medium) (image : ℕ → ℕ) → IsSound old → Fits a old → IsWhole a old → first_wrong a (last_image old) ≡ None → Replays a image (replayed a (last_image old)) → IsReached a old image
 reached_last a old image sound fits whole valid replays = record {
   before = last_image old;
-  was = λ p of. sound.last p (on_device a old p fits of, whole p of);
+  was = λ p of. torn-in (last_image old p) (old.history p) (sound.last p (on_device a old p fits of, whole p of));
   same = inr (valid, replays);
 }
 

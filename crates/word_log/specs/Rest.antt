@@ -1,15 +1,15 @@
 -- What log and home hold in each image that a cut may leave.
 use Rattle.std.specs.Prelude.{◌≡◌, ◌⊎◌, ℕ, None}
-use Rattle.line_device.specs.History.{IsIn}
+use Rattle.line_device.specs.History.{IsTorn}
 use Rattle.line_device.specs.Medium.{Medium}
 use Rattle.line_words.specs.Words.{IsOnly}
 use Rattle.word_log.specs.declared.area.LogArea.{LogArea}
 use Rattle.word_log.specs.Area.{IsOf, IsHome, gate_place}
 use Rattle.word_log.specs.Replay.{Replays, replayed, first_wrong}
 
--- one value for each word of log and home, such as a cut may leave them
+-- one value for each word of log and home, such as a cut may leave them, whether it keeps words whole or byte by byte
 abbrev pub IsImageOn : LogArea → Medium → (ℕ → ℕ) → Type 0
-IsImageOn a m image = (p : ℕ) → IsOf a p → IsIn (image p) (m.history p)
+IsImageOn a m image = (p : ℕ) → IsOf a p → IsTorn (image p) (m.history p)
 
 -- each image of log and home is such
 abbrev pub EachImage : LogArea → Medium → ((ℕ → ℕ) → Type 0) → Type 0
