@@ -66,7 +66,7 @@ pub shown_discarded : (later : Machine) (page count i : ℕ) (pages : List Page)
     → is_among page count (i / 4096) ≡ true → byte_at_place later (of_volume i) ≡ Some 0
 shown_discarded later page count i pages choice shows among =
     let number : i / 64 / 64 ≡ i / 4096 = omega arith in
-    subst (λ o. MayShow choice o (i % 64) (byte_at_place later (of_volume i))) (hole page count (i / 64) pages (ap (is_among page count) number ∙ among)) (shows i)
+    subst (λ o. MayShow later.unit choice o (i % 64) (byte_at_place later (of_volume i))) (hole page count (i / 64) pages (ap (is_among page count) number ∙ among)) (shows i)
 
 -- the bytes of blocks that were written as a whole
 pub shown_blocks : (h next later : Machine) (block i : ℕ) (bytes : List ℕ) → BreaksOff h (BAtomic block bytes) next → later.blocks ≡ write block bytes h.blocks
@@ -87,4 +87,4 @@ hole_in name page count i files among =
 pub shown_holes : (later : Machine) (name : List ℕ) (page count i : ℕ) (files : List File) (choice : Choice) → ShowsFiles choice (discarded_in name page count files) later
     → is_among page count (i / 4096) ≡ true → byte_at_place later (of_file name i) ≡ Some 0
 shown_holes later name page count i files choice shows among =
-    subst (λ o. MayShow choice o (i % 64) (byte_at_place later (of_file name i))) (hole_in name page count i files among) (shows name i)
+    subst (λ o. MayShow later.unit choice o (i % 64) (byte_at_place later (of_file name i))) (hole_in name page count i files among) (shows name i)

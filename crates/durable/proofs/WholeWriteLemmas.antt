@@ -202,7 +202,7 @@ recovered write h next later said breaks heard mounted = by_refusal (refusal nex
 
 -- what a restart reads of pages
 shows_read : (choice : Choice) (place : ℕ → ℕ) (image : Image) (pages : List Page) (i : ℕ) → HaveLines pages → KeepsPages choice place image pages
-    → MayShow choice (cell_of pages (i / 64)) (i % 64) (line_has (cell_of (read_pages place image (presence_of pages)) (i / 64)) (i % 64))
+    → MayShow image.unit choice (cell_of pages (i / 64)) (i % 64) (line_has (cell_of (read_pages place image (presence_of pages)) (i / 64)) (i % 64))
 shows_read choice place image pages i lines keeps = by_presence (is_line_present pages (i / 64)) refl
   where
     read : List Page
@@ -215,7 +215,7 @@ shows_read choice place image pages i lines keeps = by_presence (is_line_present
     value = image.word (8 * place (i / 64) + (i % 64) / 8)
 
     by_cell : (o : Option Cell) → IsLineThere o → ((cell : Cell) → o ≡ Some cell → KeepsCell choice image (place (i / 64)) cell)
-        → MayShow choice o (i % 64) (line_has (Some (cond (image.is_bad (place (i / 64))) Bad (Kept (image.is_weak (place (i / 64))) (list_from word (8 * place (i / 64)) 8)))) (i % 64))
+        → MayShow image.unit choice o (i % 64) (line_has (Some (cond (image.is_bad (place (i / 64))) Bad (Kept (image.is_weak (place (i / 64))) (list_from word (8 * place (i / 64)) 8)))) (i % 64))
     by_cell None none kept = absurd none
     by_cell (Some Bad) size kept = ap (λ b. line_has (Some (cond b Bad (Kept (image.is_weak (place (i / 64))) (list_from word (8 * place (i / 64)) 8)))) (i % 64)) (kept Bad refl)
     by_cell (Some (Kept weak words)) size kept =
@@ -227,12 +227,12 @@ shows_read choice place image pages i lines keeps = by_presence (is_line_present
               (get_or_from_slice_get (list_from word (8 * place (i / 64)) 8) ((i % 64) / 8) (value ∷ []) [] (slice_get-list_from word (8 * place (i / 64)) 8 ((i % 64) / 8) (omega arith))),
         )
 
-    by_presence : (b : Bool) → is_line_present pages (i / 64) ≡ b → MayShow choice (cell_of pages (i / 64)) (i % 64) (line_has (cell_of read (i / 64)) (i % 64))
+    by_presence : (b : Bool) → is_line_present pages (i / 64) ≡ b → MayShow image.unit choice (cell_of pages (i / 64)) (i % 64) (line_has (cell_of read (i / 64)) (i % 64))
     by_presence true there =
-        subst (λ o. MayShow choice (cell_of pages (i / 64)) (i % 64) (line_has o (i % 64))) (sym (cell_of-read_pages place image (presence_of pages) (i / 64) (is_there (presence_of pages) (i / 64 / 64) there)))
+        subst (λ o. MayShow image.unit choice (cell_of pages (i / 64)) (i % 64) (line_has o (i % 64))) (sym (cell_of-read_pages place image (presence_of pages) (i / 64) (is_there (presence_of pages) (i / 64 / 64) there)))
         (by_cell (cell_of pages (i / 64)) (lines (i / 64) there) (keeps (i / 64)))
     by_presence false absent =
-        subst (λ o. MayShow choice o (i % 64) (line_has (cell_of read (i / 64)) (i % 64))) (sym (absent_line pages (i / 64) absent))
+        subst (λ o. MayShow image.unit choice o (i % 64) (line_has (cell_of read (i / 64)) (i % 64))) (sym (absent_line pages (i / 64) absent))
         (ap (λ o. line_has o (i % 64)) (absent_line read (i / 64) (ap (λ bs. slice_index_or bs (i / 64 / 64) false) (presence_of-read_pages place image (presence_of pages)) ∙ absent)))
 
 shows_files : (choice : Choice) (next later : Machine) (back : Returns next later) → back.choice ≡ choice → AllHaveLines next.files → ShowsFiles choice back.may.files_left later
@@ -242,8 +242,10 @@ shows_files choice next later back same lines name i =
     let whole = lines-named name left (lines-files_left next.mappings next.interrupted next.files left lines back.may.may_files) in
     let shown : byte_at_place later (of_file name i) ≡ line_has (cell_of (read_pages read.place back.image (presence_of (pages_named name left))) (i / 64)) (i % 64) =
     ap (λ fs. line_has (cell_of (pages_named name fs) (i / 64)) (i % 64)) back.files ∙ ap (λ p. line_has (cell_of p (i / 64)) (i % 64)) read.is in
-    subst (λ c. MayShow c (cell_of (pages_named name left) (i / 64)) (i % 64) (byte_at_place later (of_file name i))) same
-    (subst (MayShow back.choice (cell_of (pages_named name left) (i / 64)) (i % 64)) (sym shown) (shows_read back.choice read.place back.image (pages_named name left) i whole read.keeps))
+    subst (λ u. MayShow u choice (cell_of (pages_named name left) (i / 64)) (i % 64) (byte_at_place later (of_file name i))) (sym back.image_unit)
+    (subst (λ c. MayShow back.image.unit c (cell_of (pages_named name left) (i / 64)) (i % 64) (byte_at_place later (of_file name i))) same
+    (subst (MayShow back.image.unit back.choice (cell_of (pages_named name left) (i / 64)) (i % 64)) (sym shown)
+    (shows_read back.choice read.place back.image (pages_named name left) i whole read.keeps)))
 
 shows_volume : (choice : Choice) (next later : Machine) (back : Returns next later) → back.choice ≡ choice → HaveLines next.volume → ShowsVolume choice back.may.left later
 shows_volume choice next later back same lines i =
@@ -251,9 +253,10 @@ shows_volume choice next later back same lines i =
     let place : ℕ → ℕ = volume_line next.geometry in
     let shown : byte_at_place later (of_volume i) ≡ line_has (cell_of (read_pages place back.image (presence_of left)) (i / 64)) (i % 64) =
     ap (λ p. line_has (cell_of p (i / 64)) (i % 64)) (back.volume ∙ ap (read_pages place back.image) (sym back.may.there)) in
-    subst (λ c. MayShow c (cell_of left (i / 64)) (i % 64) (byte_at_place later (of_volume i))) same
-    (subst (MayShow back.choice (cell_of left (i / 64)) (i % 64)) (sym shown)
-    (shows_read back.choice place back.image left i (lines-left next.geometry next.interrupted next.volume left lines back.may.may) back.may.volume))
+    subst (λ u. MayShow u choice (cell_of left (i / 64)) (i % 64) (byte_at_place later (of_volume i))) (sym back.image_unit)
+    (subst (λ c. MayShow back.image.unit c (cell_of left (i / 64)) (i % 64) (byte_at_place later (of_volume i))) same
+    (subst (MayShow back.image.unit back.choice (cell_of left (i / 64)) (i % 64)) (sym shown)
+    (shows_read back.choice place back.image left i (lines-left next.geometry next.interrupted next.volume left lines back.may.may) back.may.volume)))
 
 pub restarted : (write : WholeWrite) (h next later : Machine) (choice : Choice) (said : Transcript) → BreaksOffFor h (command write) next → Hears next (Asked (Restart choice)) said later
     → AreMounted said.answers ⊎ IsStopped said.answers → ShowsEither choice write h later

@@ -71,18 +71,19 @@ written (scars ranges) held = record held { blocks = change ranges Scarred held.
 written (discards_volume page count) held = record held { volume = discard page count held.volume }
 written (clears_volume offset) held = record held { volume = change_line clear_cell (offset / 64) held.volume }
 
--- what a restart may show of byte i of a line: a value that its word had since it was last durable, the last where that was asked for
-abbrev pub MayShow : Choice → Option Cell → ℕ → Option ℕ → Type 0
-MayShow choice None i byte = byte ≡ Some 0
-MayShow choice (Some Bad) i byte = byte ≡ None
-MayShow choice (Some (Kept weak words)) i byte = (value : ℕ) × MaySurvive choice (slice_index_or words (i / 8) []) value × (byte ≡ Some (byte_at (i % 8) value))
+-- what a restart may show of byte i of a line: that of a value that its word had since it was last durable, the last where that was
+-- asked for; where words are kept whole, the word shown is such a value
+abbrev pub MayShow : ℕ → Choice → Option Cell → ℕ → Option ℕ → Type 0
+MayShow unit choice None i byte = byte ≡ Some 0
+MayShow unit choice (Some Bad) i byte = byte ≡ None
+MayShow unit choice (Some (Kept weak words)) i byte = (value : ℕ) × MaySurvive unit choice (slice_index_or words (i / 8) []) value × (byte ≡ Some (byte_at (i % 8) value))
 
 -- so of each byte of the volume, and of all files
 abbrev pub ShowsVolume : Choice → List Page → Machine → Type 0
-ShowsVolume choice pages later = (i : ℕ) → MayShow choice (cell_of pages (i / 64)) (i % 64) (byte_at_place later (of_volume i))
+ShowsVolume choice pages later = (i : ℕ) → MayShow later.unit choice (cell_of pages (i / 64)) (i % 64) (byte_at_place later (of_volume i))
 
 abbrev pub ShowsFiles : Choice → List File → Machine → Type 0
-ShowsFiles choice files later = (name : List ℕ) (i : ℕ) → MayShow choice (cell_of (pages_named name files) (i / 64)) (i % 64) (byte_at_place later (of_file name i))
+ShowsFiles choice files later = (name : List ℕ) (i : ℕ) → MayShow later.unit choice (cell_of (pages_named name files) (i / 64)) (i % 64) (byte_at_place later (of_file name i))
 
 -- storage has this: exactly, and as a restart may show it, which keeps blocks exactly
 pub record Has (held : Held) (later : Machine) : Type 0 where

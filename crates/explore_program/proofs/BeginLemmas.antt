@@ -42,7 +42,7 @@ use Rattle.program_base.proofs.OpenLemmas.{flushed_of_image, good_image}
 
 -- what a mount finds nothing wrong with is ready, and is kept
 abbrev pub Mounted : Type 0
-Mounted = (geo : Geometry) (image : Image) → IsValid geo → image.count ≡ total_lines geo → bad_metadata geo image.is_bad ≡ [] → wrong_file_place geo image.word ≡ None
+Mounted = (geo : Geometry) (image : Image) → IsValid geo → image.count ≡ total_lines geo → image.unit ≡ 8 → bad_metadata geo image.is_bad ≡ [] → wrong_file_place geo image.word ≡ None
     → IsReady (reading geo image) × IsKept (reading geo image)
 
 -- each word of an image is as it was last stored
@@ -60,7 +60,7 @@ kept_opened mounted lines right =
     let m = medium_of lines in
     let geo = geometry_told m in
     let layout = layout_found m (flushed_of_image lines) right in
-    mounted geo (image_of lines) layout.valid layout.lines (good_image lines right) (subst (λ word. wrong_file_place geo word ≡ None) (last_is lines) (nothing_found m right).3)
+    mounted geo (image_of lines) layout.valid layout.lines refl (good_image lines right) (subst (λ word. wrong_file_place geo word ≡ None) (last_is lines) (nothing_found m right).3)
 
 -- a line has 64 bytes, if any
 abbrev IsOfLine : Option LineState → Type 0

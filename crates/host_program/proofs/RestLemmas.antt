@@ -91,6 +91,7 @@ fit_served host d serves = subst FitImage (sym serves.layout.lines) (fit_image h
 pub stands-read_out : (h : Machine) (old new : Device) → DeviceStands old h → WritesBack old.medium new.medium → SetsUp went old.panel new.panel → new.panel.power ≡ old.panel.power
     → h.cut_armed ≡ false → h.fail_armed ≡ false → DeviceStands new h
 stands-read_out h old new stands w sets power cut fail = record {
+  unit = sets.orders.unit ∙ stands.unit;
   metadata = metadata-then h.geometry old.medium new.medium h.bad_meta (layout-write_back h.geometry old.medium new.medium stands.metadata.layout w) (λ n below. w.bad n) stands.metadata;
   blocks = λ none. each_reads-write_back h.geometry old.medium new.medium (MayLeaveBlocks h.interrupted h.blocks) w (stands.blocks none);
   volume = λ none.

@@ -37,7 +37,7 @@ finding_of (line ∷ lines) = Some (bad_line line)
 pub record IsReadAgain (lines : List LineState) (h : Machine) : Type 0 where
   pub found : first_finding (medium_of lines) ≡ finding_of h.bad_meta
   pub sizes : h.bad_meta ≡ [] → geometry_told (medium_of lines) ≡ h.geometry
-  pub left : RestartMayLeave Lasts (image_of lines) h
+  pub left : RestartMayLeave Lasts (record (image_of lines) { unit = h.unit }) h
 
 -- All lines of the device are held under the name, as they were last stored, and are read again as the state that it stands for.
 pub record IsStored (name : List ℕ) (old new : Option Held) (m : Medium) (h : Machine) : Type 0 where

@@ -43,6 +43,7 @@ image_of lines = record {
   count = length lines;
   is_bad = λ n. is_told_bad (slice_get lines n);
   is_weak = λ n. is_told_weak (slice_get lines n);
+  unit = 8;
   word = λ p. told_word (slice_get lines (p / 8)) (p % 8);
 }
 

@@ -1,6 +1,6 @@
 // An image as the lines of a device.
 ghost use Rattle.std.specs.Prelude.{◌≡◌, length, IsTrue, OnOk};
-ghost use Rattle.line_device.specs.Panel.{SetsUp};
+ghost use Rattle.line_device.specs.Panel.{SetsUp, with_unit};
 ghost use Rattle.line_device.specs.Device.{setup_outcome};
 ghost use Rattle.image_file.specs.Text.{FitImage};
 ghost use Rattle.image_file.specs.Devices.{medium_of};
@@ -15,7 +15,8 @@ pub fn install<D: LineDevice>(device: &mut D, image: &Image) -> Result<(), Reset
     ensures lines { OnOk result ((D.state device.new).medium ≡ medium_of image.now.lines.items) }
     ensures on { OnOk result (IsTrue (D.state device.new).panel.power) }
     ensures stays_on { IsTrue (D.state device.old).panel.power → IsTrue (D.state device.new).panel.power }
-    ensures sets_up { SetsUp (setup_outcome result) (D.state device.old).panel (D.state device.new).panel }
+    ensures unit { OnOk result ((D.state device.new).panel.unit ≡ 8) }
+    ensures sets_up { SetsUp (setup_outcome result) (with_unit (D.state device.old).panel (D.state device.new).panel.unit) (D.state device.new).panel }
 {
     device.reset(image.lines.len(), UNIT)?;
     for (n, line) in image.lines.as_slice().iter().enumerate() {

@@ -2,11 +2,11 @@
 use Rattle.std.proofs.Common.{◌≡◌, ℕ, ◌/◌, ◌<◌, ◌≤◌, true, Some, List, length, slice_get, sym, ap, subst, ◌∙◌, arith}
 use Rattle.std.proofs.lemmas.List.{length-map}
 use Rattle.line_device.specs.Device.{Depicts}
-use Rattle.line_device.specs.History.{IsIn, newest}
+use Rattle.line_device.specs.History.{MayKeep, newest}
 use Rattle.line_device.specs.Medium.{IsHealthy, Medium, Survivors, last_image}
 use Rattle.line_device.specs.Panel.{Image}
 use Rattle.line_device.specs.declared.line.Choice.{Choice}
-use Rattle.line_device.proofs.TornLemmas.{torn-in}
+use Rattle.line_device.proofs.TornLemmas.{may_keep-torn}
 use Rattle.line_words.specs.Words.{WritesBackOutside}
 use Rattle.word_tables.specs.declared.geometry.Geometry.{Geometry}
 use Rattle.word_tables.specs.Bounds.{IsValid}
@@ -32,16 +32,16 @@ use Rattle.pm_volume.proofs.ServesLemmas.{holds-same}
 use Rattle.pm_volume.proofs.StandingLemmas.{presence_read-replays}
 
 -- The start is an image of what was before.
-pub start_was : (geo : Geometry) → IsValid geo → (choice : Choice) (old back : Medium) → old.count ≡ total_lines geo → AreGood old (meta_lines geo) → Survivors choice old back
+pub start_was : (geo : Geometry) → IsValid geo → (unit : ℕ) (choice : Choice) (old back : Medium) → old.count ≡ total_lines geo → AreGood old (meta_lines geo) → Survivors unit choice old back
     → IsImageOn (volume_area geo) old (last_image back)
-start_was geo valid choice old back count good left p of =
+start_was geo valid unit choice old back count good left p of =
     let meta = area_in_metadata geo valid p of in
     let healthy : IsHealthy old (p / 8) = (omega (arith, meta, meta_within geo, count), good (p / 8) meta) in
     let word = left.words p healthy in
-    torn-in (last_image back p) (old.history p) (subst (λ v. IsIn v (old.history p)) (sym (ap newest word.1.one)) word.1.was)
+    may_keep-torn unit (last_image back p) (old.history p) (subst (λ v. MayKeep unit v (old.history p)) (sym (ap newest word.1.one)) word.1.was)
 
 module _ (geo : Geometry) (valid : IsValid geo) (choice : Choice) (old back new : Medium) (image : Image) (count : old.count ≡ total_lines geo)
-    (good : AreGood old (meta_lines geo)) (left : Survivors choice old back) (shows : Depicts back image)
+    (good : AreGood old (meta_lines geo)) (by_words : image.unit ≡ 8) (left : Survivors image.unit choice old back) (shows : Depicts back image)
     (outside : WritesBackOutside (IsOf (volume_area geo)) back new) where
   module _ (P : List Page → Type 0) (found : ReadsPages geo old P (last_image back)) where
     all_there : length (presence_of found.pages) ≡ geo.vpages
@@ -63,7 +63,7 @@ module _ (geo : Geometry) (valid : IsValid geo) (choice : Choice) (old back new 
         let t : VolumeState = record { geo = geo; present = presence_of found.pages; quiet = s.quiet; settled = s.settled } in
         let holds : VolumeHolds t back pages = record { there = presence_of-read_pages (volume_line geo) image (presence_of found.pages); stand = kept.1 } in (
           pages,
-          leaves-read choice (volume_line geo) image found.pages found.stand.whole (has_words (volume_line geo) old found.pages found.stand) kept.0,
+          leaves-read choice (volume_line geo) image found.pages found.stand.whole (has_words (volume_line geo) old found.pages found.stand) by_words kept.0,
           holds-same t s new pages sizes (there ∙ read)
               (holds-others t back new (λ n. n < meta_lines geo) (λ n on low. let at = behind n on in absurd (omega (arith, at.0, low))) (others-meta geo back new valid outside) pages holds),
         )
@@ -72,6 +72,6 @@ module _ (geo : Geometry) (valid : IsValid geo) (choice : Choice) (old back new 
   pub remounted-each : (P : List Page → Type 0) → EachLeft geo old P → (s : VolumeState) → s.geo ≡ geo → s.present ≡ presence_read geo (last_image back)
       → (pages : List Page) × P pages × VolumeHolds s new pages
   remounted-each P each s sizes there =
-      let found = each (last_image back) (start_was geo valid choice old back count good left) in
+      let found = each (last_image back) (start_was geo valid image.unit choice old back count good left) in
       let after = remounted (λ pages. (later : List Page) → MayLeave pages later → P later) found s sizes there in
       (after.0, found.is after.0 after.1, after.2)

@@ -2,7 +2,7 @@
 use Rattle.std.proofs.Common.{◌≡◌, inl, inr, ℕ, ◌+◌, ◌*◌, ◌/◌, ◌%◌, ◌<◌, true, cond, option_and_then, Option, Some, None, option_map, List, [], ◌∷◌, length, map, slice_get, refl, sym, ap, subst, ◌∙◌, arith}
 use Rattle.std.proofs.lemmas.Bool.{cases_lt}
 use Rattle.std.proofs.lemmas.Option.{none-some, same_Some, slice_get-get_or, slice_get-map, slice_get_past, slice_get_within}
-use Rattle.line_device.specs.History.{IsIn, latest, newest}
+use Rattle.line_device.specs.History.{IsIn, MayKeep, latest, newest}
 use Rattle.line_device.proofs.HistoryLemmas.{is_in-latest, latest-cons}
 use Rattle.line_device.specs.Panel.{Image}
 use Rattle.line_device.specs.declared.line.Choice.{Choice}
@@ -85,10 +85,10 @@ restart-durable pages left n may = by_line (cell_of pages n) (cell_of left n) (m
     by_line None (Some b) is = absurd is
     by_line (Some a) (Some b) is = durable-left a b is
 
--- What a restart left is one value of each word.
+-- What a restart left is one value of each word, where words are kept whole.
 module _ (choice : Choice) (place : ℕ → ℕ) (image : Image) (pages : List Page)
     (whole : (i : ℕ) (cells : List Cell) → slice_get pages i ≡ Some (Present cells) → length cells ≡ 64) (sizes : (n : ℕ) → HasWords (cell_of pages n))
-    (keeps : KeepsPages choice place image pages) where
+    (by_words : image.unit ≡ 8) (keeps : KeepsPages choice place image pages) where
   left_cell : (n : ℕ) (cell : Cell) → HasWords (Some cell) → KeepsCell choice image (place n) cell → LeavesCell cell (read_cell image (place n))
   left_cell n Bad size kept = ap (λ b. cond b Bad (Kept (image.is_weak (place n)) (list_from (λ p. image.word p ∷ []) (8 * place n) 8))) kept
   left_cell n (Kept weak words) size kept =
@@ -99,7 +99,7 @@ module _ (choice : Choice) (place : ℕ → ℕ) (image : Image) (pages : List P
             let small : w < 8 = omega (arith, slice_get_within words w history was, size) in
             record {
               value = image.word (8 * place n + w);
-              was = (kept.2 w history was).was;
+              was = subst (λ u. MayKeep u (image.word (8 * place n + w)) history) by_words (kept.2 w history was).was;
               is = same_Some _ _ (sym now ∙ slice_get-list_from (λ p. image.word p ∷ []) (8 * place n) 8 w small);
             },
       )

@@ -37,22 +37,23 @@ pub fn stores_and_syncs_keep_other_lines()
         → line_in (cell_of others n) ≡ line_in (cell_of pages n) }
 {}
 
-/// A restart leaves one value of each word, and what is durable as it is; all that it leaves is durable.
+/// Where words are kept whole, a restart leaves one value of each word, and what is durable as it is; all that it leaves is
+/// durable.
 pub fn a_restart_leaves_one_value()
     ensures pages { (choice : Choice) (place : ℕ → ℕ) (image : Image) (m : Medium) (pages : List Page) → PagesStand place m pages
-        → KeepsPages choice place image pages → MayLeave pages (read_pages place image (presence_of pages)) }
+        → image.unit ≡ 8 → KeepsPages choice place image pages → MayLeave pages (read_pages place image (presence_of pages)) }
     ensures keeps { (pages left : List Page) (n : ℕ) → IsDurable (cell_of pages n) → MayLeave pages left → cell_of left n ≡ cell_of pages n }
     ensures durable { (pages left : List Page) (n : ℕ) → MayLeave pages left → IsDurable (cell_of left n) }
 {}
 
-/// After a restart the words of the log are an image of what was before, and a mount finds pages that the restart may leave of
-/// those that this image names.
+/// After a restart the words of the log are an image of what was before, and where words are kept whole, a mount finds pages
+/// that the restart may leave of those that this image names.
 pub fn a_mount_finds_what_was_left()
-    ensures image { (geo : Geometry) (choice : Choice) (old back : Medium) → IsValid geo → old.count ≡ total_lines geo → AreGood old (meta_lines geo)
-        → Survivors choice old back → IsImageOn (volume_area geo) old (last_image back) }
+    ensures image { (geo : Geometry) (unit : ℕ) (choice : Choice) (old back : Medium) → IsValid geo → old.count ≡ total_lines geo → AreGood old (meta_lines geo)
+        → Survivors unit choice old back → IsImageOn (volume_area geo) old (last_image back) }
     ensures pages { (geo : Geometry) (choice : Choice) (old back new : Medium) (image : Image) (before : List Page) (s : VolumeState) → IsValid geo
         → old.count ≡ total_lines geo → AreGood old (meta_lines geo) → ReadsPages geo old (λ pages. pages ≡ before) (last_image back)
-        → Survivors choice old back → Depicts back image → WritesBackOutside (IsOf (volume_area geo)) back new
+        → image.unit ≡ 8 → Survivors image.unit choice old back → Depicts back image → WritesBackOutside (IsOf (volume_area geo)) back new
         → s.geo ≡ geo → s.present ≡ presence_read geo (last_image back)
         → (pages : List Page) × MayLeave before pages × VolumeHolds s new pages }
 {}

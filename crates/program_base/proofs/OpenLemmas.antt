@@ -9,11 +9,11 @@ use Rattle.line_words.specs.Words.{IsOnly}
 use Rattle.line_device.proofs.HistoryLemmas.{is_in-one}
 use Rattle.line_device.specs.Device.{Device}
 use Rattle.line_device.specs.Medium.{Medium}
-use Rattle.line_device.specs.Panel.{Outcome, Panel, Runs, SetsUp}
+use Rattle.line_device.specs.Panel.{Outcome, Panel, Runs, SetsUp, with_unit}
 use Rattle.line_device.specs.Panel.Outcome.{went}
 use Rattle.line_device.specs.declared.line.LineState.{LineState}
 use Rattle.line_device.specs.declared.line.LineState.TheVariants.{Healthy, Weak, Bad}
-use Rattle.line_device.proofs.PanelLemmas.{arms_nothing-trans, same_orders-trans}
+use Rattle.line_device.proofs.PanelLemmas.{arms_nothing-trans, same_orders-then}
 use Rattle.machine_host.specs.Costs.{Opens, mount_calls, mount_persists}
 use Rattle.machine_model.specs.declared.mode.Mode.TheVariants as modes
 use Rattle.machine_host.specs.Lines.{bad_metadata}
@@ -31,14 +31,14 @@ use Rattle.program_base.specs.declared.ending.Ending.TheVariants as endings
 use Rattle.machine_host.specs.Telling.{Tells}
 
 -- setting up and mounting
-pub opens-set_up : (end : Outcome) (p q : Panel) → SetsUp end p q → Opens p q
+pub opens-set_up : (end : Outcome) (p q : Panel) → SetsUp end (with_unit p q.unit) q → Opens p q
 opens-set_up end p q sets = record {
   faults = sets.faults;
   cuts = sets.cuts;
   calls = omega (arith, sets.calls);
   persists = omega (arith, sets.persists);
   setups = sets.setups;
-  armed = sets.armed;
+  armed = record { cut = sets.armed.cut; fail = sets.armed.fail };
   orders = sets.orders;
 }
 
@@ -77,24 +77,24 @@ pub on_opened : (lines : List LineState) → first_finding (medium_of lines) ≡
 on_opened lines right = ap (λ (h : Machine). h.mode) (read_whole (geometry_told (medium_of lines)) (image_of lines) (good_image lines right))
 
 -- set up and mounted
-pub opens-mounted : (end : Outcome) (p q r : Panel) → SetsUp went p q → Runs mount_calls mount_persists end q r → Opens p r
+pub opens-mounted : (end : Outcome) (p q r : Panel) → SetsUp went (with_unit p q.unit) q → Runs mount_calls mount_persists end q r → Opens p r
 opens-mounted end p q r sets runs = record {
   faults = omega (arith, sets.faults, runs.faults);
   cuts = omega (arith, sets.cuts, runs.cuts);
   calls = omega (arith, sets.calls, runs.few_calls);
   persists = omega (arith, sets.persists, runs.few_persists);
   setups = omega (arith, sets.setups, runs.setups);
-  armed = arms_nothing-trans p q r sets.armed runs.armed;
-  orders = same_orders-trans p q r sets.orders runs.orders;
+  armed = arms_nothing-trans p q r (record { cut = sets.armed.cut; fail = sets.armed.fail }) runs.armed;
+  orders = same_orders-then p q r sets.orders runs.orders;
 }
 
 -- lines that were mounted
-pub mounts : (lines : List LineState) (host : HostState) (old mid new : Device) → mid.medium ≡ medium_of lines → SetsUp went old.panel mid.panel
+pub mounts : (lines : List LineState) (host : HostState) (old mid new : Device) → mid.medium ≡ medium_of lines → SetsUp went (with_unit old.panel mid.panel.unit) mid.panel
     → first_finding mid.medium ≡ None → new.medium.count ≡ mid.medium.count → HostServes host new
     → Stands host new (record (reading (geometry_told mid.medium) (image_of lines)) { cut_armed = new.panel.cut_armed; fail_armed = new.panel.fail_armed })
     → Runs mount_calls mount_persists went mid.panel new.panel → Mounts lines host old new
 mounts lines host old mid new is sets found count serves stands runs =
-    let armed = arms_nothing-trans old.panel mid.panel new.panel sets.armed runs.armed in
+    let armed = arms_nothing-trans old.panel mid.panel new.panel (record { cut = sets.armed.cut; fail = sets.armed.fail }) runs.armed in
     record {
       right = sym (ap first_finding is) ∙ found;
       count = count ∙ ap (λ (m : Medium). m.count) is;

@@ -43,7 +43,7 @@ pub fn start<D: LineDevice>(alloc: Global, device: &mut D, image: &Image) -> Res
     ensures opens { Opens (D.state device.old).panel (D.state device.new).panel }
 {
     image_file::install(device, image)?;
-    Ok(Host::mount(alloc, device)?)
+    Ok(Host::mount(alloc, device, 8)?)
 }
 
 /// The image under this name. Its bytes are let go once they are read.

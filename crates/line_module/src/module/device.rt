@@ -1,6 +1,6 @@
 ghost use Rattle.std.specs.Prelude.{◌≡◌, ◌<◌, ◌≤◌, ℕ, false, IsTrue, IsOk, IfOk, OnOk, OnErr, MatchResult, Some, None};
 ghost use Rattle.line_device.specs.Medium.{WritesBack, Shows, installed, zeros};
-ghost use Rattle.line_device.specs.Panel.{Start, SetsUp, KeepsPower, outcome, after_arm_cut, after_arm_fail, after_evict, after_disarm, after_power_off};
+ghost use Rattle.line_device.specs.Panel.{Start, SetsUp, KeepsPower, outcome, with_unit, after_arm_cut, after_arm_fail, after_evict, after_disarm, after_power_off};
 ghost use Rattle.line_device.specs.Device.{Restarted, Waited, setup_outcome};
 ghost use Rattle.line_module.specs.Memory.{memory_after_reset, memory_after_install, memory_after_evict, memory_after_restart, is_told_weak};
 ghost use Rattle.line_device.specs.Switches.{cut_left, fail_left, switches_after_restart, powered};
@@ -22,19 +22,20 @@ impl LineDevice for Module {
         ensures lines { OnOk result (WritesBack (zeros lines) (module_medium self.new)) }
         ensures on { OnOk result (IsTrue (module_device self.new).panel.power) }
         ensures stays_on { IsTrue (module_device self.old).panel.power → IsTrue (module_device self.new).panel.power }
-        ensures sets_up { SetsUp (setup_outcome result) (module_device self.old).panel (module_device self.new).panel }
+        ensures unit { OnOk result ((module_device self.new).panel.unit ≡ unit) }
+        ensures sets_up { SetsUp (setup_outcome result) (with_unit (module_device self.old).panel (module_device self.new).panel.unit) (module_device self.new).panel }
         ensures exactly { MatchResult result
             (λ _. memory_of self.new ≡ memory_after_reset lines)
             (λ _. memory_of self.new ≡ memory_of self.old) }
         ensures never_failed { result ≡ Err setup.Failed → ⊥ }
         ensures switches { MatchResult result
-            (λ _. module_switches self.new ≡ powered (module_switches self.old))
+            (λ _. module_switches self.new ≡ powered unit (module_switches self.old))
             (λ _. module_switches self.new ≡ module_switches self.old) }
     {
         match Cells::new(self.alloc, lines) {
             Ok(cells) => {
                 self.cells = Some(cells);
-                self.switches.power_on();
+                self.switches.power_on(unit);
                 Ok(())
             }
             Err(_) => Err(ResetFault::Memory),
@@ -158,5 +159,9 @@ impl LineDevice for Module {
 impl Peek for Module {
     fn peek(&self, line: LineNo) -> LineState {
         self.shown(line)
+    }
+
+    fn unit(&self) -> u64 {
+        self.switches.unit()
     }
 }

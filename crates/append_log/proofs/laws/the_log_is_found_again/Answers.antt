@@ -13,8 +13,8 @@ returns-clause-stands c = λ s m log serves has.
     (λ left leaves. stands-left has.pages left log (length-left has.pages left leaves) leaves has.stands)
 
 pub returns-clause-found : goal.returns-clause-found
-returns-clause-found c = λ geo choice old back new image s one other valid count good each left shows outside sizes there.
-    let found = remounted-each geo valid choice old back new image count good left shows outside (λ pages. LogStands pages one ⊎ LogStands pages other) each s.volume sizes there in
+returns-clause-found c = λ geo choice old back new image s one other valid count good each words left shows outside sizes there.
+    let found = remounted-each geo valid choice old back new image count good words left shows outside (λ pages. LogStands pages one ⊎ LogStands pages other) each s.volume sizes there in
     elim found.1 as (λ _. HoldsLog s new one ⊎ HoldsLog s new other) [
       | inl stands ↦ inl (record { pages = found.0; holds = found.2; stands = stands })
       | inr stands ↦ inr (record { pages = found.0; holds = found.2; stands = stands })

@@ -3,7 +3,7 @@ use Rattle.pm_volume.proofs.RestartLemmas.{leaves-read, restart-durable, restart
 use Rattle.pm_volume.proofs.line_laws.a_restart_leaves_one_value.Goals as goal
 
 pub returns-clause-pages : goal.returns-clause-pages
-returns-clause-pages c = λ choice place image m pages stand keeps. leaves-read choice place image pages stand.whole (has_words place m pages stand) keeps
+returns-clause-pages c = λ choice place image m pages stand words keeps. leaves-read choice place image pages stand.whole (has_words place m pages stand) words keeps
 
 pub returns-clause-keeps : goal.returns-clause-keeps
 returns-clause-keeps c = restart-keeps

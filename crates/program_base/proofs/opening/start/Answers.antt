@@ -14,4 +14,4 @@ returns-clause-mounts g c =
     let done = c.in_ok-mount.ensures in
     let shows : Depicts mid.medium (image_of lines) = subst (λ (m : Medium). Depicts m (image_of lines)) (sym is) (depicted lines) in
     mounts lines c.in_ok-mount.field-0 (g.D.Lines.state c.args.device.now) mid (g.D.Lines.state c.mount.new.device)
-    is c.in_ok-install.ensures.sets_up done.finds done.lines.count done.serves (done.stands (image_of lines) shows) done.runs
+    is c.in_ok-install.ensures.sets_up done.finds done.lines.count done.serves (done.stands (image_of lines) shows refl) done.runs

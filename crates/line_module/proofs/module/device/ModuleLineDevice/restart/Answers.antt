@@ -19,8 +19,9 @@ restarted_by : (choice : Choice) (old new : Option Cells) (before after : Switch
 restarted_by choice old new before after is switched =
     let m = (memory_held old).medium in
     let m' = (memory_held new).medium in
-    let survivors : Survivors choice m m' = subst (Survivors choice m) (sym is) (survivors-memory choice (memory_held old) (is_sound-held old)) in
-    (record { choice = choice; image = image_of m' }, record { lines = survivors; asked = refl; image = depicts-survivors choice m m' survivors; panel = ap panel_of switched })
+    let unit = before.unit in
+    let survivors : Survivors unit choice m m' = subst (Survivors unit choice m) (sym is) (survivors-memory unit choice (memory_held old) (is_sound-held old)) in
+    (record { choice = choice; image = image_of unit m' }, record { lines = survivors; asked = refl; unit = refl; image = depicts-survivors unit choice m m' survivors; panel = ap panel_of switched })
 
 pub returns-in-Some-clause-restarted : goal.returns-in-Some-clause-restarted
 returns-in-Some-clause-restarted c =
