@@ -35,16 +35,14 @@ pub returns-then-is_empty-clause-ok : goal.returns-then-is_empty-clause-ok
 returns-then-is_empty-clause-ok g c = λ files file at.
     let s = c.args.journal.now in
     let old = (g.L.Lines.state c.args.dev.now).medium in
-    let n = length c.take_units-fresh.result.items in
-    let none = no_holes (pages_there s c.args.inode) c.args.span n c.requires.storable.some (holes g (goal.at.returns-then-is_empty-clause-ok g c).After-take_units-fresh) (eqb-true n 0 (sym c.is_empty.ensures ∙ c.if-is_empty.true)) in
+    let none = no_holes _ _ _ c.requires.storable.some (holes g (goal.at.returns-then-is_empty-clause-ok g c).After-take_units-fresh) (eqb-true _ 0 (sym c.is_empty.ensures ∙ c.if-is_empty.true)) in
     subst (λ (t : JournalState). FilesStand s.geo old t.tables (change_file file_name file.name (on_pages (λ p. fill c.args.span.start c.args.span.len p)) files)) (sym c.take_units-fresh.ensures.journal)
     (unfilled-files s old c.args.inode c.requires.tables c.args.span none files file at)
 
 pub returns-then-is_empty-clause-images : goal.returns-then-is_empty-clause-images
 returns-then-is_empty-clause-images g c = λ files file at.
     let s = c.args.journal.now in
-    let n = length c.take_units-fresh.result.items in
-    let none = no_holes (pages_there s c.args.inode) c.args.span n c.requires.storable.some (holes g (goal.at.returns-then-is_empty-clause-images g c).After-take_units-fresh) (eqb-true n 0 (sym c.is_empty.ensures ∙ c.if-is_empty.true)) in
+    let none = no_holes _ _ _ c.requires.storable.some (holes g (goal.at.returns-then-is_empty-clause-images g c).After-take_units-fresh) (eqb-true _ 0 (sym c.is_empty.ensures ∙ c.if-is_empty.true)) in
     unfilled-images s (g.L.Lines.state c.args.dev.now).medium c.args.inode c.requires.tables c.args.span none files file at c.requires.serves
 
 pub returns-then-is_empty-clause-outside : goal.returns-then-is_empty-clause-outside
@@ -63,8 +61,7 @@ fill_with-requires-clause-room g c =
 
 pub fill_with-requires-clause-good : goal.fill_with-requires-clause-good
 fill_with-requires-clause-good g c =
-    let n = length c.take_units-fresh.result.items in
-    let some = some_holes (pages_there c.args.journal.now c.args.inode) c.args.span n c.requires.storable.some (holes g (goal.at.fill_with-requires-clause-good g c).After-take_units-fresh) (not_empty n (sym c.is_empty.ensures ∙ c.if-is_empty.false)) in
+    let some = some_holes _ _ _ c.requires.storable.some (holes g (goal.at.fill_with-requires-clause-good g c).After-take_units-fresh) (not_empty _ (sym c.is_empty.ensures ∙ c.if-is_empty.false)) in
     subst (λ (t : JournalState). AreGood (g.L.Lines.state c.args.dev.now).medium (meta_lines t.geo)) (sym c.take_units-fresh.ensures.journal) (c.requires.storable.good some)
 
 pub fill_with-requires-clause-covered : goal.fill_with-requires-clause-covered
@@ -112,10 +109,9 @@ returns-clause-held g c =
 pub returns-clause-runs : goal.returns-clause-runs
 returns-clause-runs g c =
     let s = c.args.journal.now in
-    let n = length c.take_units-fresh.result.items in
     let few = holes g (goal.at.returns-clause-runs g c).After-take_units-fresh in
-    let some = some_holes (pages_there s c.args.inode) c.args.span n c.requires.storable.some few (not_empty n (sym c.is_empty.ensures ∙ c.if-is_empty.false)) in
+    let some = some_holes _ _ _ c.requires.storable.some few (not_empty _ (sym c.is_empty.ensures ∙ c.if-is_empty.false)) in
     let p = (g.L.Lines.state c.args.dev.now).panel in
     let q = (g.L.Lines.state c.fill_with.new.dev).panel in
-    fill_runs s c.args.inode c.args.span n _ p q few some
+    fill_runs s c.args.inode c.args.span _ _ p q few some
     (subst (λ (k : ℕ). Runs (64 * k + commit_calls (5 + k)) (commit_persists (5 + k)) (ended c.fill_with.result) p q) (ap length c.as_slice.ensures.value) c.fill_with.ensures.runs)
