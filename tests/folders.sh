@@ -47,7 +47,11 @@ on_image() {
     local sizes
     read -r -a sizes < <(said_of "$1" image '8 2 32')
     rm img
-    [ "${sizes[0]}" = none ] || "$program" new img "${sizes[@]}" >/dev/null || echo "no image"
+    case ${sizes[0]} in
+        none) ;;
+        newbyte) "$program" newbyte img "${sizes[@]:1}" >/dev/null || echo "no image" ;;
+        *) "$program" new img "${sizes[@]}" >/dev/null || echo "no image" ;;
+    esac
     differs "$1"
 }
 

@@ -37,6 +37,7 @@ each() {
     later "$1, each call failing, and a recovery" after fail recover "${@:2}"
     later "$1, each call failing, and a restart" after fail $'cut\nrestart all' "${@:2}"
     later "$1, each call taking the power" after cut 'restart all' "${@:2}"
+    [ -n "${mixed-}" ] || later "$1, each call taking the power, on bytes" on_bytes after cut 'restart seed 1' "${@:2}"
 }
 
 old_blocks=$'data 11*512\ndata 11*512'

@@ -8,7 +8,7 @@ import subprocess
 import sys
 import tempfile
 
-USAGE = "usage: new IMAGE BLOCKS VPAGES FPAGES, run IN OUT, check IN, bench SEED N\n"
+USAGE = "usage: new IMAGE BLOCKS VPAGES FPAGES, run IN OUT, check IN, bench SEED N, newbyte IMAGE BLOCKS VPAGES FPAGES\n"
 
 LINES = (
     # each line as words that blanks part; '' is an empty word
@@ -42,6 +42,11 @@ LINES = (
     "new made 8 2 x",
     "new made 8 2 0x20",
     "new made 00000000008 2 32",
+    "newbyte",
+    "newbyte made 8 2",
+    "newbyte made 8 2 32 1",
+    "newbyte made 12 2 32",
+    "newbyte made 8 2 31",
     "new made 4294967304 2 32",
     "New made 8 2 32",
     "run",

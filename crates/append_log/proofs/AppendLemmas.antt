@@ -18,9 +18,9 @@ use Rattle.pm_volume.proofs.WriteLemmas.{length-left, length-may_write, length-w
 -- before line 0 counts the record, the log is as it was
 module _ (place : ℕ → ℕ) (m : Medium) (pages : List Page) (log : List (Option (List ℕ))) (stand : PagesStand place m pages) (stands : LogStands pages log)
     (line : List ℕ) (whole : length line ≡ 64) where
-  pub record-left : (new left : List Page) → MayWrite (length log + 1) line pages new → MayLeave new left → LogStands left log
+  pub record-left : (new left : List Page) → MayWrite (length log + 1) line pages new → MayLeave 8 new left → LogStands left log
   record-left new left may leaves =
-      stands-left new left log (length-left new left leaves) leaves
+      stands-left 8 new left log (length-left 8 new left leaves) leaves
       (stands-kept pages new log (length-may_write (length log + 1) line pages new may)
       (λ n to. may_write-keeps (length log + 1) line whole pages new n (λ is. absurd (omega (arith, to, is))) (has_words place m pages stand n) may) stands)
 
@@ -41,25 +41,25 @@ module _ (place : ℕ → ℕ) (m : Medium) (pages : List Page) (log : List (Opt
         | inr last ↦ let same : 1 + length log ≡ n = omega (arith, to, last) in subst (λ k. IsDurable (cell_of pages k)) same durable
       ]
 
-  pub count-left : (new left : List Page) → MayWrite 0 count pages new → MayLeave new left → LogStands left log ⊎ LogStands left (log ++ Some bytes ∷ [])
+  pub count-left : (new left : List Page) → MayWrite 0 count pages new → MayLeave 8 new left → LogStands left log ⊎ LogStands left (log ++ Some bytes ∷ [])
   count-left new left may leaves =
       elim (may_write-count 0 count pages new left whole small strong (stands.durable 0 (omega arith)) may leaves) as (λ _. LogStands left log ⊎ LogStands left (log ++ Some bytes ∷ [])) [
-        | inl old ↦ inl (stands-counted pages left log size old (λ n from to. same n from (omega (arith, to))) (λ n to. restart-durable new left n leaves) stands)
+        | inl old ↦ inl (stands-counted pages left log size old (λ n from to. same n from (omega (arith, to))) (λ n to. restart-durable 8 new left n leaves) stands)
         | inr more ↦
             inr (stands-more pages left log bytes (omega (arith, within, size)) (λ n from to. same n from (omega (arith, to)))
             (ap (option_and_then record_of) (same (1 + length log) (omega arith) (omega arith)) ∙ entry) (more ∙ ap Some counts)
-            (λ n to. restart-durable new left n leaves) stands)
+            (λ n to. restart-durable 8 new left n leaves) stands)
       ]
     where
       size : length left ≡ length pages
-      size = length-left new left leaves ∙ length-may_write 0 count pages new may
+      size = length-left 8 new left leaves ∙ length-may_write 0 count pages new may
 
       kept : (n : ℕ) → 1 ≤ n → IsKeptLine (cell_of pages n) (cell_of new n)
       kept n from = may_write-keeps 0 count whole pages new n (λ is. absurd (omega (arith, from, is))) (has_words place m pages stand n) may
 
       same : (n : ℕ) → 1 ≤ n → n ≤ length log + 1 → line_in (cell_of left n) ≡ line_in (cell_of pages n)
       same n from to =
-          ap line_in (restart-keeps new left n (kept-durable _ _ (kept n from) (lasts n to)) leaves) ∙ kept-reads _ _ (kept n from)
+          ap line_in (restart-keeps 8 new left n (kept-durable _ _ (kept n from) (lasts n to)) leaves) ∙ kept-reads _ _ (kept n from)
 
   pub count-written : LogStands (written_line 0 count pages) (log ++ Some bytes ∷ [])
   count-written =

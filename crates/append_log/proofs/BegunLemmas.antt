@@ -72,7 +72,7 @@ module _ (s : LogState) (m : Medium) (bytes : List ℕ) (tested : IsTested s m b
 
   pub record-images : (log : List (Option (List ℕ))) (new : Medium) (line : List ℕ) (P : List Page → Type 0) → length line ≡ 64
       → ((pages : List Page) → VolumeHolds s.volume m pages → EachReadsPages s.volume.geo new (MayWrite (s.len + 1) line pages))
-      → ((left : List Page) → LogStands left log → P left) → HoldsLog s m log → EachLeft s.volume.geo new P
+      → ((left : List Page) → LogStands left log → P left) → HoldsLog s m log → EachLeft 8 s.volume.geo new P
   record-images log new line P whole each next holds =
       reads-then s.volume.geo new _ _
       (λ after may left leaves.

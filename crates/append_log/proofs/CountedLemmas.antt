@@ -55,10 +55,10 @@ module _ (s : LogState) (v : VolumeState) (m new : Medium) (bytes line : List �
         (ap (option_and_then record_of) (written-reads holds.pages (s.len + 1) line is.whole is.small (strong s v m new bytes line is holds.pages holds.holds)) ∙ is.parsed)
 
     pub count-images : (last : Medium) → ((pages : List Page) → VolumeHolds v new pages → EachReadsPages v.geo last (MayWrite 0 count pages))
-        → EachLeft s.volume.geo last (λ left. LogStands left log ⊎ LogStands left (log ++ Some bytes ∷ []))
+        → EachLeft 8 s.volume.geo last (λ left. LogStands left log ⊎ LogStands left (log ++ Some bytes ∷ []))
     count-images last each =
         let held = is.held holds.pages holds.holds in
-        subst (λ (g : Geometry). EachLeft g last (λ left. LogStands left log ⊎ LogStands left (log ++ Some bytes ∷ []))) is.geo
+        subst (λ (g : Geometry). EachLeft 8 g last (λ left. LogStands left log ⊎ LogStands left (log ++ Some bytes ∷ []))) is.geo
         (reads-then v.geo last _ _
         (λ after may left leaves.
         count-left (volume_line v.geo) new (recorded holds.pages) log held.stand stands bytes count whole small (omega (arith, counts, same)) (omega (arith, room holds.pages holds.holds, same))

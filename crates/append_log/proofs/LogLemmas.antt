@@ -94,9 +94,9 @@ stands-kept old new log size kept stands =
     (λ n to. kept-durable _ _ (kept n to) (stands.durable n to)) stands
 
 -- and after a restart.
-pub stands-left : (pages left : List Page) (log : List (Option (List ℕ))) → length left ≡ length pages → MayLeave pages left → LogStands pages log → LogStands left log
-stands-left pages left log size may stands =
-    stands-kept pages left log size (λ n to. inl (restart-keeps pages left n (stands.durable n to) may)) stands
+pub stands-left : (unit : ℕ) (pages left : List Page) (log : List (Option (List ℕ))) → length left ≡ length pages → MayLeave unit pages left → LogStands pages log → LogStands left log
+stands-left unit pages left log size may stands =
+    stands-kept pages left log size (λ n to. inl (restart-keeps unit pages left n (stands.durable n to) may)) stands
 
 -- One record more is there once line 0 counts it.
 pub stands-more : (old new : List Page) (log : List (Option (List ℕ))) (bytes : List ℕ) → length log + 1 < 64 * length new

@@ -16,14 +16,14 @@ ghost use Rattle.pm_volume.specs.Object.{VolumeServes};
 ghost use Rattle.pm_volume.specs.Presence.{presence_read};
 ghost use Rattle.append_log.specs.Log.{HoldsLog, LogStands, LogState};
 
-/// A log that stands is in each image, and a restart and a mount of the volume find what an image has: the log that stood, or
-/// after an append that was interrupted the one or the other.
+/// A log that stands is in each image, of either survival unit. A restart and a mount of the volume find what an image has: the log
+/// that stood, or after an append that was interrupted the one or the other.
 pub fn the_log_is_found_again()
-    ensures stands { (s : LogState) (m : Medium) (log : List (Option (List ℕ))) → VolumeServes s.volume m → HoldsLog s m log
-        → EachLeft s.volume.geo m (λ left. LogStands left log) }
+    ensures stands { (unit : ℕ) (s : LogState) (m : Medium) (log : List (Option (List ℕ))) → VolumeServes s.volume m → HoldsLog s m log
+        → EachLeft unit s.volume.geo m (λ left. LogStands left log) }
     ensures found { (geo : Geometry) (choice : Choice) (old back new : Medium) (image : Image) (s : LogState) (one other : List (Option (List ℕ)))
         → IsValid geo → old.count ≡ total_lines geo → AreGood old (meta_lines geo)
-        → EachLeft geo old (λ left. LogStands left one ⊎ LogStands left other) → Survivors choice old back → Depicts back image
+        → EachLeft image.unit geo old (λ left. LogStands left one ⊎ LogStands left other) → Survivors image.unit choice old back → Depicts back image
         → WritesBackOutside (IsOf (volume_area geo)) back new → s.volume.geo ≡ geo → s.volume.present ≡ presence_read geo (last_image back)
         → HoldsLog s new one ⊎ HoldsLog s new other }
 {}

@@ -103,7 +103,7 @@ impl AppendLog {
         ensures ok { OnOk result ((log : List (Option (List ℕ))) → HoldsLog self.old (L.state dev.old).medium log
             → HoldsLog self.new (L.state dev.new).medium (log ++ Some record.now ∷ [])) }
         ensures images { OnWorked log_says result ((log : List (Option (List ℕ))) → HoldsLog self.old (L.state dev.old).medium log
-            → EachLeft self.old.volume.geo (L.state dev.new).medium (λ left. LogStands left log ⊎ LogStands left (log ++ Some record.now ∷ []))) }
+            → EachLeft 8 self.old.volume.geo (L.state dev.new).medium (λ left. LogStands left log ⊎ LogStands left (log ++ Some record.now ∷ []))) }
         ensures outside { WritesBackOthers (IsOfVolume self.old.volume.geo) (L.state dev.old).medium (L.state dev.new).medium }
         ensures serves { IsTrue self.new.volume.settled → LogServes self.new (L.state dev.new).medium }
         ensures object { (self.new.volume.geo ≡ self.old.volume.geo) × (self.new.volume.settled ≡ is_done (outcome_by log_says result)) }

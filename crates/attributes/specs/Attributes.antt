@@ -1,5 +1,5 @@
 -- The attributes of the modes, by name.
-use Rattle.std.specs.Prelude.{ℕ, ◌-◌, ◌*◌, List, [], ◌∷◌, ◌++◌, Option, Some, None, if◌then◌else◌, codes}
+use Rattle.std.specs.Prelude.{ℕ, ◌-◌, ◌*◌, ◌==◌, List, [], ◌∷◌, ◌++◌, Option, Some, None, if◌then◌else◌, codes}
 use Rattle.std.specs.Str.{bytes_eq}
 use Rattle.word_tables.specs.declared.geometry.Geometry.{Geometry}
 
@@ -41,11 +41,11 @@ file_attributes geo =
     ∷ tells (codes "file.atomic_ranges") 8
     ∷ []
 
--- of mapped files
-abbrev pub mapping_attributes : List Attribute
-mapping_attributes =
-    tells (codes "pm.store_atomicity") 8
-    ∷ tells (codes "pm.interrupted_store_atomicity") 1
+-- of mapped files, on a medium of this survival unit: an aligned word is kept whole, or each of its bytes is
+abbrev pub mapping_attributes : ℕ → List Attribute
+mapping_attributes unit =
+    tells (codes "pm.store_atomicity") unit
+    ∷ tells (codes "pm.interrupted_store_atomicity") (if unit == 8 then 1 else 0)
     ∷ tells (codes "pm.error_range") 64
     ∷ tells (codes "pm.error_offset") 0
     ∷ tells (codes "pm.flush_ranges") 8
@@ -53,8 +53,8 @@ mapping_attributes =
     ∷ []
 
 -- the table
-abbrev pub attributes : Geometry → List Attribute
-attributes geo = block_attributes geo ++ volume_attributes geo ++ file_attributes geo ++ mapping_attributes
+abbrev pub attributes : Geometry → ℕ → List Attribute
+attributes geo unit = block_attributes geo ++ volume_attributes geo ++ file_attributes geo ++ mapping_attributes unit
 
 -- what the first attribute of that name tells, None where there is none
 abbrev pub value_in : List Attribute → List ℕ → Option ℕ
@@ -62,5 +62,5 @@ value_in [] name = None
 value_in (attribute ∷ rest) name = if bytes_eq name attribute.name then Some attribute.value else value_in rest name
 
 -- what the attribute of that name tells, None where the table has none
-unfoldable pub attribute : List ℕ → Geometry → Option ℕ
-attribute name geo = value_in (attributes geo) name
+unfoldable pub attribute : List ℕ → Geometry → ℕ → Option ℕ
+attribute name geo unit = value_in (attributes geo unit) name

@@ -3,21 +3,21 @@ ghost use Rattle.std.specs.Prelude.{◌≡◌};
 ghost use Rattle.word_tables.specs.Bounds.{IsValid};
 ghost use Rattle.attributes.specs.Attributes.{attribute, block_attributes, file_attributes, mapping_attributes, value_in, volume_attributes};
 
-use nvm_base::{BLOCK, LINE, PAGE, WORD};
+use nvm_base::{BLOCK, LINE, PAGE};
 use word_tables::Geometry;
 
 /// Pages that stay free of files: the most that one write of all or nothing replaces.
 const SPARE_PAGES: u64 = 16;
 
-/// What the attribute of that name is of a medium, None where no attribute has it.
-pub fn value(name: &[u8], geo: Geometry) -> Option<u64>
+/// What the attribute of that name is of a medium of these sizes and this survival unit, None where no attribute has it.
+pub fn value(name: &[u8], geo: Geometry, unit: u64) -> Option<u64>
     requires { IsValid geo }
-    ensures { result ≡ attribute name.now geo }
+    ensures { result ≡ attribute name.now geo unit }
 {
     block_value(name, geo)
         .or(volume_value(name, geo))
         .or(file_value(name, geo))
-        .or(mapping_value(name))
+        .or(mapping_value(name, unit))
 }
 
 fn block_value(name: &[u8], geo: Geometry) -> Option<u64>
@@ -74,13 +74,13 @@ fn file_value(name: &[u8], geo: Geometry) -> Option<u64>
     }
 }
 
-fn mapping_value(name: &[u8]) -> Option<u64>
-    ensures { result ≡ value_in mapping_attributes name.now }
+fn mapping_value(name: &[u8], unit: u64) -> Option<u64>
+    ensures { result ≡ value_in (mapping_attributes unit) name.now }
 {
     if name == b"pm.store_atomicity".as_slice() {
-        Some(WORD)
+        Some(unit)
     } else if name == b"pm.interrupted_store_atomicity".as_slice() {
-        Some(1)
+        Some(if unit == 8 { 1 } else { 0 })
     } else if name == b"pm.error_range".as_slice() {
         Some(LINE)
     } else if name == b"pm.error_offset".as_slice() {

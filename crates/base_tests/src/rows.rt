@@ -40,6 +40,6 @@ fn the_table(rt: HostRuntime) {
         fpages: 1024,
     };
     for &(name, told) in &ROWS {
-        assert_eq!(rt; value(name.as_bytes(), geo), told, "{name}");
+        assert_eq!(rt; value(name.as_bytes(), geo, 8), told, "{name}");
     }
 }

@@ -54,8 +54,8 @@ no_bad_block_lines geo bad word valid is_map good =
     good_map geo bad word states (λ n named. good n (data_on_device geo valid n (named_is_data geo valid states n (length-states_read geo word) is_map named)))
 
 -- nor after a restart
-pub no_bad_blocks-restarted : (geo : Geometry) (choice : Choice) (old new : Medium) (image : Image) (P : List Block → Type 0) → IsValid geo → IsIntact old → old.count ≡ total_lines geo → Survivors choice old new → Depicts new image → EachReads geo old P → bad_block_lines (blocks_read geo image.is_bad image.word) ≡ 0
-no_bad_blocks-restarted geo choice old new image P valid intact count x shows each =
-    let was = each image.word (block_image-restarted geo valid choice old new image count x shows) in
+pub no_bad_blocks-restarted : (geo : Geometry) (unit : ℕ) (choice : Choice) (old new : Medium) (image : Image) (P : List Block → Type 0) → IsValid geo → IsIntact old → old.count ≡ total_lines geo → Survivors unit choice old new → Depicts new image → EachReads geo old P → bad_block_lines (blocks_read geo image.is_bad image.word) ≡ 0
+no_bad_blocks-restarted geo unit choice old new image P valid intact count x shows each =
+    let was = each image.word (block_image-restarted geo valid unit choice old new image count x shows) in
     no_bad_block_lines geo image.is_bad image.word valid was.map
     (λ n below. shows.bad n (subst (λ c. n < c) (sym (x.count ∙ count)) below) ∙ x.bad n ∙ (intact n (subst (λ c. n < c) (sym count) below)).0)

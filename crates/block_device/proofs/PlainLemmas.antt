@@ -22,8 +22,8 @@ one_is_only : (h : List ℕ) (v : ℕ) → h ≡ v ∷ [] → IsOnly v h
 one_is_only h v one x at = is_in-one x v (subst (IsIn x) one at)
 
 -- each word has one value, or none
-one_value : (choice : Choice) (old off new : Medium) → IsSound new → WritesBack old off → ((p : ℕ) → old.count ≤ p / 8 → old.history p ≡ []) → Survivors choice off new → (p : ℕ) → IsOnly (last_image new p) (new.history p)
-one_value choice old off new sound before end x p =
+one_value : (unit : ℕ) (choice : Choice) (old off new : Medium) → IsSound new → WritesBack old off → ((p : ℕ) → old.count ≤ p / 8 → old.history p ≡ []) → Survivors unit choice off new → (p : ℕ) → IsOnly (last_image new p) (new.history p)
+one_value unit choice old off new sound before end x p =
     elim (cases_lt (p / 8) new.count) as (λ _. IsOnly (last_image new p) (new.history p)) [
       | inl on ↦
           elim (cases_Bool (new.is_bad (p / 8))) as (λ _. IsOnly (last_image new p) (new.history p)) [
@@ -37,8 +37,8 @@ one_value choice old off new sound before end x p =
           is_only-none (last_image new p) (new.history p) (x.lost p none)
     ]
 
-pub names_durable : (geo : Geometry) (choice : Choice) (old off new : Medium) → IsSound new → WritesBack old off → ((p : ℕ) → old.count ≤ p / 8 → old.history p ≡ []) → Survivors choice off new → (states : List BlockState) → AreDurable geo new states
-names_durable geo choice old off new sound before end x states block unit at p from to = one_value choice old off new sound before end x p
+pub names_durable : (geo : Geometry) (unit : ℕ) (choice : Choice) (old off new : Medium) → IsSound new → WritesBack old off → ((p : ℕ) → old.count ≤ p / 8 → old.history p ≡ []) → Survivors unit choice off new → (states : List BlockState) → AreDurable geo new states
+names_durable geo unit choice old off new sound before end x states block own at p from to = one_value unit choice old off new sound before end x p
 
 -- a plain device has no words past its end
 none_past : (mark : Option Mark) (x y : ℕ) → mark ≡ None → (if has_words mark then first_and_last x y else []) ≡ []

@@ -26,7 +26,7 @@ pub met_is : (m : ArgMatches) (name : Text) (rows : List Row) → Some name ≡ 
     → Some rows ≡ option_map (λ (p : Text × List Row). p.1) (subcommand_rows_of m) → met_form (subcommand_rows_of m) ≡ command_form name rows
 met_is m name rows is_name is_rows = ap met_form (both_of (subcommand_rows_of m) name rows (is_name ∙ name_of_rows m) is_rows)
 
-pub command_new : (name : Text) (rows : List Row) → name ≡ codes "new" → command_form name rows ≡ new_of rows
+pub command_new : (name : Text) (rows : List Row) → name ≡ codes "new" → command_form name rows ≡ new_of 8 rows
 unfolding command_form
 command_new name rows is = ap (λ (n : Text). command_form n rows) is
 
@@ -42,13 +42,23 @@ pub command_bench : (name : Text) (rows : List Row) → name ≡ codes "bench" �
 unfolding command_form
 command_bench name rows is = ap (λ (n : Text). command_form n rows) is
 
-abbrev picked : Bool → Bool → Bool → Bool → List Row → Option Form
-picked new run check bench rows = cond new (new_of rows) (cond run (run_of rows) (cond check (check_of rows) (cond bench (bench_of rows) None)))
-
-pub command_other : (name : Text) (rows : List Row) → name ≢ codes "new" → name ≢ codes "run" → name ≢ codes "check" → name ≢ codes "bench" → command_form name rows ≡ None
+pub command_new_byte : (name : Text) (rows : List Row) → name ≡ codes "newbyte" → command_form name rows ≡ new_of 1 rows
 unfolding command_form
-command_other name rows not_new not_run not_check not_bench =
-    ap (λ (t : Bool). picked t (bytes_eq name (codes "run")) (bytes_eq name (codes "check")) (bytes_eq name (codes "bench")) rows) (differs name (codes "new") not_new)
-    ∙ ap (λ (t : Bool). picked false t (bytes_eq name (codes "check")) (bytes_eq name (codes "bench")) rows) (differs name (codes "run") not_run)
-    ∙ ap (λ (t : Bool). picked false false t (bytes_eq name (codes "bench")) rows) (differs name (codes "check") not_check)
-    ∙ ap (λ (t : Bool). picked false false false t rows) (differs name (codes "bench") not_bench)
+command_new_byte name rows is = ap (λ (n : Text). command_form n rows) is
+
+abbrev picked : Bool → Bool → Bool → Bool → Bool → List Row → Option Form
+picked new run check bench byte rows =
+    cond new (new_of 8 rows) (cond run (run_of rows) (cond check (check_of rows) (cond bench (bench_of rows) (cond byte (new_of 1 rows) None))))
+
+pub command_other : (name : Text) (rows : List Row) → name ≢ codes "new" → name ≢ codes "run" → name ≢ codes "check" → name ≢ codes "bench" → name ≢ codes "newbyte" → command_form name rows ≡ None
+unfolding command_form
+command_other name rows not_new not_run not_check not_bench not_byte =
+    let run = bytes_eq name (codes "run") in
+    let check = bytes_eq name (codes "check") in
+    let bench = bytes_eq name (codes "bench") in
+    let byte = bytes_eq name (codes "newbyte") in
+    ap (λ (t : Bool). picked t run check bench byte rows) (differs name (codes "new") not_new)
+    ∙ ap (λ (t : Bool). picked false t check bench byte rows) (differs name (codes "run") not_run)
+    ∙ ap (λ (t : Bool). picked false false t bench byte rows) (differs name (codes "check") not_check)
+    ∙ ap (λ (t : Bool). picked false false false t byte rows) (differs name (codes "bench") not_bench)
+    ∙ ap (λ (t : Bool). picked false false false false t rows) (differs name (codes "newbyte") not_byte)

@@ -1,13 +1,13 @@
 -- Which values each command takes.
 use Rattle.std.proofs.Common.{◌≡◌, ◌∙◌, ℕ, List, [], ◌∷◌, refl, ap}
-use Rattle.std.specs.Prelude.{Some, option_map}
+use Rattle.std.specs.Prelude.{Some}
 use Rattle.clap.specs.Walk.{Held, nothing_held}
 use Rattle.clap.specs.Simple.{Shape, built, built_leaf, inherited}
 use Rattle.clap.specs.Words.{Text}
 use Rattle.clap.specs.declared.error.kind.ErrorKind.TheVariants.{UnknownArgument, MissingRequiredArgument}
 use Rattle.clap.proofs.OnLiterals.{clap_on_literals}
 use Rattle.nvm_base.specs.Numbers.{number_of}
-use Rattle.command_line.specs.Words.{bench_named, of_check, of_new, of_run, sizes_named}
+use Rattle.command_line.specs.Words.{bench_named, new_named, of_check, of_run}
 use Rattle.command_line.specs.Commands.{bench_command, bench_of, check_command, check_of, new_command, new_of, program, run_command, run_of}
 use Rattle.command_line.proofs.WordLemmas.{IsValue, before, filled, leaf_refusals, leaf_rows, refused_already, refused_first, refused_from, refused_next, rows_first, rows_from, rows_next}
 
@@ -21,8 +21,8 @@ check = ready check_command.top
 abbrev pub run : Shape
 run = ready run_command.top
 
-abbrev pub new : Shape
-new = ready new_command.top
+abbrev pub new : Text → Shape
+new name = ready (new_command name).top
 
 abbrev pub bench : Shape
 bench = ready bench_command.top
@@ -115,77 +115,78 @@ run_read a b pa pb = ap run_of (rows_first run (a ∷ b ∷ [])
     ∙ rows_next run 2 (then run 1 nothing_held a) b pb [])
     ∙ run_reads a b
 
--- ---- new
+-- ---- new, and newbyte
 
-new_past_1 : (a : Text) → IsValue a → (rest : List Text)
-    → leaf_refusals new (a ∷ rest) ≡ refused_from new [] (before 2 (then new 1 nothing_held a)) rest
-new_past_1 a pa rest = refused_first new (a ∷ rest) ∙ refused_next new 1 nothing_held a pa rest
+module _ (verb : Text) where
+  new_past_1 : (a : Text) → IsValue a → (rest : List Text)
+      → leaf_refusals (new verb) (a ∷ rest) ≡ refused_from (new verb) [] (before 2 (then (new verb) 1 nothing_held a)) rest
+  new_past_1 a pa rest = refused_first (new verb) (a ∷ rest) ∙ refused_next (new verb) 1 nothing_held a pa rest
 
-new_past_2 : (a b : Text) → IsValue a → IsValue b → (rest : List Text)
-    → leaf_refusals new (a ∷ b ∷ rest) ≡ refused_from new [] (before 3 (then new 2 (then new 1 nothing_held a) b)) rest
-new_past_2 a b pa pb rest = new_past_1 a pa (b ∷ rest) ∙ refused_next new 2 (then new 1 nothing_held a) b pb rest
+  new_past_2 : (a b : Text) → IsValue a → IsValue b → (rest : List Text)
+      → leaf_refusals (new verb) (a ∷ b ∷ rest) ≡ refused_from (new verb) [] (before 3 (then (new verb) 2 (then (new verb) 1 nothing_held a) b)) rest
+  new_past_2 a b pa pb rest = new_past_1 a pa (b ∷ rest) ∙ refused_next (new verb) 2 (then (new verb) 1 nothing_held a) b pb rest
 
-new_past_3 : (a b c : Text) → IsValue a → IsValue b → IsValue c → (rest : List Text)
-    → leaf_refusals new (a ∷ b ∷ c ∷ rest) ≡ refused_from new [] (before 4 (then new 3 (then new 2 (then new 1 nothing_held a) b) c)) rest
-new_past_3 a b c pa pb pc rest = new_past_2 a b pa pb (c ∷ rest) ∙ refused_next new 3 (then new 2 (then new 1 nothing_held a) b) c pc rest
+  new_past_3 : (a b c : Text) → IsValue a → IsValue b → IsValue c → (rest : List Text)
+      → leaf_refusals (new verb) (a ∷ b ∷ c ∷ rest) ≡ refused_from (new verb) [] (before 4 (then (new verb) 3 (then (new verb) 2 (then (new verb) 1 nothing_held a) b) c)) rest
+  new_past_3 a b c pa pb pc rest = new_past_2 a b pa pb (c ∷ rest) ∙ refused_next (new verb) 3 (then (new verb) 2 (then (new verb) 1 nothing_held a) b) c pc rest
 
-new_past_4 : (a b c d : Text) → IsValue a → IsValue b → IsValue c → IsValue d → (rest : List Text)
-    → leaf_refusals new (a ∷ b ∷ c ∷ d ∷ rest) ≡ refused_from new [] (before 5 (then new 4 (then new 3 (then new 2 (then new 1 nothing_held a) b) c) d)) rest
-new_past_4 a b c d pa pb pc pd rest = new_past_3 a b c pa pb pc (d ∷ rest) ∙ refused_next new 4 (then new 3 (then new 2 (then new 1 nothing_held a) b) c) d pd rest
+  new_past_4 : (a b c d : Text) → IsValue a → IsValue b → IsValue c → IsValue d → (rest : List Text)
+      → leaf_refusals (new verb) (a ∷ b ∷ c ∷ d ∷ rest) ≡ refused_from (new verb) [] (before 5 (then (new verb) 4 (then (new verb) 3 (then (new verb) 2 (then (new verb) 1 nothing_held a) b) c) d)) rest
+  new_past_4 a b c d pa pb pc pd rest = new_past_3 a b c pa pb pc (d ∷ rest) ∙ refused_next (new verb) 4 (then (new verb) 3 (then (new verb) 2 (then (new verb) 1 nothing_held a) b) c) d pd rest
 
-new_ends_0 : refused_from new [] (before 1 nothing_held) [] ≡ MissingRequiredArgument ∷ []
-unfolding refused_from clap_on_literals
-new_ends_0 = refl
+  new_ends_0 : refused_from (new verb) [] (before 1 nothing_held) [] ≡ MissingRequiredArgument ∷ []
+  unfolding refused_from clap_on_literals
+  new_ends_0 = refl
 
-pub new_none : leaf_refusals new [] ≡ MissingRequiredArgument ∷ []
-new_none = refused_first new [] ∙ new_ends_0
+  pub new_none : leaf_refusals (new verb) [] ≡ MissingRequiredArgument ∷ []
+  new_none = refused_first (new verb) [] ∙ new_ends_0
 
-new_ends_1 : (a : Text) → refused_from new [] (before 2 (then new 1 nothing_held a)) [] ≡ MissingRequiredArgument ∷ []
-unfolding refused_from clap_on_literals
-new_ends_1 a = refl
+  new_ends_1 : (a : Text) → refused_from (new verb) [] (before 2 (then (new verb) 1 nothing_held a)) [] ≡ MissingRequiredArgument ∷ []
+  unfolding refused_from clap_on_literals
+  new_ends_1 a = refl
 
-pub new_one : (a : Text) → IsValue a → leaf_refusals new (a ∷ []) ≡ MissingRequiredArgument ∷ []
-new_one a pa = new_past_1 a pa [] ∙ new_ends_1 a
+  pub new_one : (a : Text) → IsValue a → leaf_refusals (new verb) (a ∷ []) ≡ MissingRequiredArgument ∷ []
+  new_one a pa = new_past_1 a pa [] ∙ new_ends_1 a
 
-new_ends_2 : (a b : Text) → refused_from new [] (before 3 (then new 2 (then new 1 nothing_held a) b)) [] ≡ MissingRequiredArgument ∷ []
-unfolding refused_from clap_on_literals
-new_ends_2 a b = refl
+  new_ends_2 : (a b : Text) → refused_from (new verb) [] (before 3 (then (new verb) 2 (then (new verb) 1 nothing_held a) b)) [] ≡ MissingRequiredArgument ∷ []
+  unfolding refused_from clap_on_literals
+  new_ends_2 a b = refl
 
-pub new_two : (a b : Text) → IsValue a → IsValue b → leaf_refusals new (a ∷ b ∷ []) ≡ MissingRequiredArgument ∷ []
-new_two a b pa pb = new_past_2 a b pa pb [] ∙ new_ends_2 a b
+  pub new_two : (a b : Text) → IsValue a → IsValue b → leaf_refusals (new verb) (a ∷ b ∷ []) ≡ MissingRequiredArgument ∷ []
+  new_two a b pa pb = new_past_2 a b pa pb [] ∙ new_ends_2 a b
 
-new_ends_3 : (a b c : Text) → refused_from new [] (before 4 (then new 3 (then new 2 (then new 1 nothing_held a) b) c)) [] ≡ MissingRequiredArgument ∷ []
-unfolding refused_from clap_on_literals
-new_ends_3 a b c = refl
+  new_ends_3 : (a b c : Text) → refused_from (new verb) [] (before 4 (then (new verb) 3 (then (new verb) 2 (then (new verb) 1 nothing_held a) b) c)) [] ≡ MissingRequiredArgument ∷ []
+  unfolding refused_from clap_on_literals
+  new_ends_3 a b c = refl
 
-pub new_three : (a b c : Text) → IsValue a → IsValue b → IsValue c → leaf_refusals new (a ∷ b ∷ c ∷ []) ≡ MissingRequiredArgument ∷ []
-new_three a b c pa pb pc = new_past_3 a b c pa pb pc [] ∙ new_ends_3 a b c
+  pub new_three : (a b c : Text) → IsValue a → IsValue b → IsValue c → leaf_refusals (new verb) (a ∷ b ∷ c ∷ []) ≡ MissingRequiredArgument ∷ []
+  new_three a b c pa pb pc = new_past_3 a b c pa pb pc [] ∙ new_ends_3 a b c
 
-new_ends_4 : (a b c d : Text) → refused_from new [] (before 5 (then new 4 (then new 3 (then new 2 (then new 1 nothing_held a) b) c) d)) [] ≡ []
-unfolding refused_from clap_on_literals
-new_ends_4 a b c d = refl
+  new_ends_4 : (a b c d : Text) → refused_from (new verb) [] (before 5 (then (new verb) 4 (then (new verb) 3 (then (new verb) 2 (then (new verb) 1 nothing_held a) b) c) d)) [] ≡ []
+  unfolding refused_from clap_on_literals
+  new_ends_4 a b c d = refl
 
-pub new_four : (a b c d : Text) → IsValue a → IsValue b → IsValue c → IsValue d → leaf_refusals new (a ∷ b ∷ c ∷ d ∷ []) ≡ []
-new_four a b c d pa pb pc pd = new_past_4 a b c d pa pb pc pd [] ∙ new_ends_4 a b c d
+  pub new_four : (a b c d : Text) → IsValue a → IsValue b → IsValue c → IsValue d → leaf_refusals (new verb) (a ∷ b ∷ c ∷ d ∷ []) ≡ []
+  new_four a b c d pa pb pc pd = new_past_4 a b c d pa pb pc pd [] ∙ new_ends_4 a b c d
 
-pub new_many : (a b c d e : Text) → IsValue a → IsValue b → IsValue c → IsValue d → IsValue e → (rest : List Text)
-    → leaf_refusals new (a ∷ b ∷ c ∷ d ∷ e ∷ rest) ≡ UnknownArgument ∷ []
-new_many a b c d e pa pb pc pd pe rest = new_past_4 a b c d pa pb pc pd (e ∷ rest)
-    ∙ refused_next new 5 (then new 4 (then new 3 (then new 2 (then new 1 nothing_held a) b) c) d) e pe rest
-    ∙ refused_already new UnknownArgument [] (filled new 5 (then new 4 (then new 3 (then new 2 (then new 1 nothing_held a) b) c) d) e) rest
+  pub new_many : (a b c d e : Text) → IsValue a → IsValue b → IsValue c → IsValue d → IsValue e → (rest : List Text)
+      → leaf_refusals (new verb) (a ∷ b ∷ c ∷ d ∷ e ∷ rest) ≡ UnknownArgument ∷ []
+  new_many a b c d e pa pb pc pd pe rest = new_past_4 a b c d pa pb pc pd (e ∷ rest)
+      ∙ refused_next (new verb) 5 (then (new verb) 4 (then (new verb) 3 (then (new verb) 2 (then (new verb) 1 nothing_held a) b) c) d) e pe rest
+      ∙ refused_already (new verb) UnknownArgument [] (filled (new verb) 5 (then (new verb) 4 (then (new verb) 3 (then (new verb) 2 (then (new verb) 1 nothing_held a) b) c) d) e) rest
 
-new_reads : (a b c d : Text) → new_of (rows_from new (before 5 (then new 4 (then new 3 (then new 2 (then new 1 nothing_held a) b) c) d)) []) ≡ option_map (of_new a) (sizes_named (number_of b) (number_of c) (number_of d))
-unfolding rows_from clap_on_literals
-new_reads a b c d = refl
+  new_reads : (unit : ℕ) (a b c d : Text) → new_of unit (rows_from (new verb) (before 5 (then (new verb) 4 (then (new verb) 3 (then (new verb) 2 (then (new verb) 1 nothing_held a) b) c) d)) []) ≡ new_named unit a b c d
+  unfolding rows_from clap_on_literals
+  new_reads unit a b c d = refl
 
-pub new_read : (a b c d : Text) → IsValue a → IsValue b → IsValue c → IsValue d
-    → new_of (leaf_rows new (a ∷ b ∷ c ∷ d ∷ [])) ≡ option_map (of_new a) (sizes_named (number_of b) (number_of c) (number_of d))
-new_read a b c d pa pb pc pd = ap new_of (rows_first new (a ∷ b ∷ c ∷ d ∷ [])
-    ∙ rows_next new 1 nothing_held a pa (b ∷ c ∷ d ∷ [])
-    ∙ rows_next new 2 (then new 1 nothing_held a) b pb (c ∷ d ∷ [])
-    ∙ rows_next new 3 (then new 2 (then new 1 nothing_held a) b) c pc (d ∷ [])
-    ∙ rows_next new 4 (then new 3 (then new 2 (then new 1 nothing_held a) b) c) d pd [])
-    ∙ new_reads a b c d
+  pub new_read : (unit : ℕ) (a b c d : Text) → IsValue a → IsValue b → IsValue c → IsValue d
+      → new_of unit (leaf_rows (new verb) (a ∷ b ∷ c ∷ d ∷ [])) ≡ new_named unit a b c d
+  new_read unit a b c d pa pb pc pd = ap (new_of unit) (rows_first (new verb) (a ∷ b ∷ c ∷ d ∷ [])
+      ∙ rows_next (new verb) 1 nothing_held a pa (b ∷ c ∷ d ∷ [])
+      ∙ rows_next (new verb) 2 (then (new verb) 1 nothing_held a) b pb (c ∷ d ∷ [])
+      ∙ rows_next (new verb) 3 (then (new verb) 2 (then (new verb) 1 nothing_held a) b) c pc (d ∷ [])
+      ∙ rows_next (new verb) 4 (then (new verb) 3 (then (new verb) 2 (then (new verb) 1 nothing_held a) b) c) d pd [])
+      ∙ new_reads unit a b c d
 
 -- ---- bench
 

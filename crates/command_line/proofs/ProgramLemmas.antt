@@ -1,11 +1,11 @@
 -- Which words the program takes.
-use Rattle.std.proofs.Common.{◌≡◌, ◌∙◌, ◌≢◌, ◌⊎◌, ◌||◌, Bool, cond, suc, true, false, List, [], ◌∷◌, Option, Some, None, refl, sym, ap, ap₂, subst, arith, inl, inr, ⊎_elim, fold, is_some, option_map, bytes_eq, codes, All, true≢false}
+use Rattle.std.proofs.Common.{◌≡◌, ◌∙◌, ◌≢◌, ◌⊎◌, ◌||◌, ℕ, Bool, cond, suc, true, false, List, [], ◌∷◌, Option, Some, None, refl, sym, ap, ap₂, subst, arith, inl, inr, ⊎_elim, fold, is_some, option_map, bytes_eq, codes, All, true≢false}
 use Rattle.std.specs.Prelude.{find}
 use Rattle.std.specs.Option.{option_map_or}
 use Rattle.std.proofs.lemmas.Slice.Eq.{bytes_eq-Decides}
 use Rattle.clap.specs.Walk.{Walk, answers_to, finished, idle, nothing_held, settled, subcommand_met, walk_from, walked}
 use Rattle.clap.specs.Simple.{built, entered, label_of, names_of, rows_at}
-use Rattle.clap.specs.Words.{App, HasKind, Shape, Text, fault_of, is_simple, is_simple_and_free, kind_of, subcommand_of}
+use Rattle.clap.specs.Words.{App, HasKind, Row, Shape, Text, fault_of, is_simple, is_simple_and_free, kind_of, subcommand_of}
 use Rattle.clap.specs.Kinds.{Kinds, or_else}
 use Rattle.clap.specs.Faults.{built_fault, check_fault, defaults_fault, entered_fault, level_fault, settle_fault, turn_fault, walk_fault}
 use Rattle.clap.specs.declared.error.Error.{Error}
@@ -14,8 +14,8 @@ use Rattle.clap.specs.declared.error.kind.ErrorKind.TheVariants.{OutOfMemory, In
 use Rattle.clap.proofs.OnLiterals.{clap_on_literals}
 use Rattle.clap.proofs.WalkLemmas.{walk_stopped}
 use Rattle.clap.proofs.FaultLemmas.{stopped_fault}
-use Rattle.command_line.specs.Words.{Form, IsPlain, bench_named, named, of_check, of_new, of_run, sizes_named}
-use Rattle.command_line.specs.Commands.{command_form, met_form, program}
+use Rattle.command_line.specs.Words.{Form, IsPlain, bench_named, named, new_named, of_check, of_run}
+use Rattle.command_line.specs.Commands.{command_form, met_form, new_of, program}
 use Rattle.nvm_base.specs.Numbers.{number_of}
 use Rattle.command_line.proofs.WordLemmas.{IsValue, leaf_refusals, leaf_rows, plain_is_value, turn_value}
 use Rattle.command_line.proofs.LeafLemmas.{bench, bench_many, bench_none, bench_one, bench_read, bench_two, check, check_many, check_none, check_one, check_read, new, new_four, new_many, new_none, new_one, new_read, new_three, new_two, run, run_many, run_none, run_one, run_read, run_two}
@@ -119,17 +119,6 @@ run_passes = refl
 run_found : named_by (codes "run") whole ≡ Some run
 run_found = refl
 
-new_walks : walk_on whole (codes "new") ≡ stopped_at (codes "new") []
-unfolding clap_on_literals
-new_walks = refl
-
-new_passes : turn_fault whole.top (names_of whole) start (codes "new") ≡ []
-unfolding clap_on_literals
-new_passes = refl
-
-new_found : named_by (codes "new") whole ≡ Some new
-new_found = refl
-
 bench_walks : walk_on whole (codes "bench") ≡ stopped_at (codes "bench") []
 unfolding clap_on_literals
 bench_walks = refl
@@ -170,14 +159,6 @@ run_named a b c [] = refl
 run_named a b c (d ∷ []) = refl
 run_named a b c (d ∷ e ∷ rest) = refl
 
--- ---- new
-
-new_fails : (rest : List Text) → fault_of program (codes "new" ∷ rest) ≡ leaf_refusals new rest
-new_fails rest = refused_in whole (codes "new") rest new_walks new_passes ∙ refused_below whole (codes "new") rest new new_found quiet
-
-new_met : (rest : List Text) → subcommand_of program (codes "new" ∷ rest) ≡ Some (codes "new", leaf_rows new rest)
-new_met rest = met_below whole (codes "new") rest new new_walks new_found
-
 -- ---- bench
 
 bench_fails : (rest : List Text) → fault_of program (codes "bench" ∷ rest) ≡ leaf_refusals bench rest
@@ -215,17 +196,43 @@ run_agrees (a ∷ []) h = inr (refuses _ _ _ (run_fails (a ∷ []) ∙ run_one a
 run_agrees (a ∷ b ∷ []) h = inl (run_fails (a ∷ b ∷ []) ∙ run_two a b h.0 h.1.0, ap met_form (run_met (a ∷ b ∷ [])) ∙ run_read a b h.0 h.1.0)
 run_agrees (a ∷ b ∷ c ∷ rest) h = inr (refuses _ _ _ (run_fails (a ∷ b ∷ c ∷ rest) ∙ run_many a b c h.0 h.1.0 h.1.1.0 rest), run_named a b c rest)
 
-new_agrees : (rest : List Text) → Values rest → Agrees (codes "new" ∷ rest)
-unfolding named command_form
-new_agrees [] h = inr (refuses _ _ _ (new_fails [] ∙ new_none), refl)
-new_agrees (a ∷ []) h = inr (refuses _ _ _ (new_fails (a ∷ []) ∙ new_one a h.0), refl)
-new_agrees (a ∷ b ∷ []) h = inr (refuses _ _ _ (new_fails (a ∷ b ∷ []) ∙ new_two a b h.0 h.1.0), refl)
-new_agrees (a ∷ b ∷ c ∷ []) h = inr (refuses _ _ _ (new_fails (a ∷ b ∷ c ∷ []) ∙ new_three a b c h.0 h.1.0 h.1.1.0), refl)
-new_agrees (a ∷ b ∷ c ∷ d ∷ []) h = inl (
-  new_fails (a ∷ b ∷ c ∷ d ∷ []) ∙ new_four a b c d h.0 h.1.0 h.1.1.0 h.1.1.1.0,
-  ap met_form (new_met (a ∷ b ∷ c ∷ d ∷ [])) ∙ new_read a b c d h.0 h.1.0 h.1.1.0 h.1.1.1.0,
-)
-new_agrees (a ∷ b ∷ c ∷ d ∷ e ∷ rest) h = inr (refuses _ _ _ (new_fails (a ∷ b ∷ c ∷ d ∷ e ∷ rest) ∙ new_many a b c d e h.0 h.1.0 h.1.1.0 h.1.1.1.0 h.1.1.1.1.0 rest), refl)
+-- the word is the name of a command for new images of this unit
+record IsNew (verb : Text) (unit : ℕ) : Type 0 where
+  pub walks : walk_on whole verb ≡ stopped_at verb []
+  pub passes : turn_fault whole.top (names_of whole) start verb ≡ []
+  pub found : named_by verb whole ≡ Some (new verb)
+  pub form : (rows : List Row) → command_form verb rows ≡ new_of unit rows
+  pub one : (a : Text) → named (verb ∷ a ∷ []) ≡ None
+  pub two : (a b : Text) → named (verb ∷ a ∷ b ∷ []) ≡ None
+  pub four : (a b c d : Text) → named (verb ∷ a ∷ b ∷ c ∷ d ∷ []) ≡ new_named unit a b c d
+
+is_new : IsNew (codes "new") 8
+unfolding clap_on_literals named command_form
+is_new = record { walks = refl; passes = refl; found = refl; form = λ rows. refl; one = λ a. refl; two = λ a b. refl; four = λ a b c d. refl }
+
+is_new_byte : IsNew (codes "newbyte") 1
+unfolding clap_on_literals named command_form
+is_new_byte = record { walks = refl; passes = refl; found = refl; form = λ rows. refl; one = λ a. refl; two = λ a b. refl; four = λ a b c d. refl }
+
+module _ (verb : Text) (unit : ℕ) (is : IsNew verb unit) where
+  new_fails : (rest : List Text) → fault_of program (verb ∷ rest) ≡ leaf_refusals (new verb) rest
+  new_fails rest = refused_in whole verb rest is.walks is.passes ∙ refused_below whole verb rest (new verb) is.found quiet
+
+  new_met : (rest : List Text) → met_form (subcommand_of program (verb ∷ rest)) ≡ new_of unit (leaf_rows (new verb) rest)
+  new_met rest = ap met_form (met_below whole verb rest (new verb) is.walks is.found) ∙ is.form (leaf_rows (new verb) rest)
+
+  new_agrees : (rest : List Text) → Values rest → Agrees (verb ∷ rest)
+  unfolding named
+  new_agrees [] h = inr (refuses _ _ _ (new_fails [] ∙ new_none verb), refl)
+  new_agrees (a ∷ []) h = inr (refuses _ _ _ (new_fails (a ∷ []) ∙ new_one verb a h.0), is.one a)
+  new_agrees (a ∷ b ∷ []) h = inr (refuses _ _ _ (new_fails (a ∷ b ∷ []) ∙ new_two verb a b h.0 h.1.0), is.two a b)
+  new_agrees (a ∷ b ∷ c ∷ []) h = inr (refuses _ _ _ (new_fails (a ∷ b ∷ c ∷ []) ∙ new_three verb a b c h.0 h.1.0 h.1.1.0), refl)
+  new_agrees (a ∷ b ∷ c ∷ d ∷ []) h = inl (
+    new_fails (a ∷ b ∷ c ∷ d ∷ []) ∙ new_four verb a b c d h.0 h.1.0 h.1.1.0 h.1.1.1.0,
+    new_met (a ∷ b ∷ c ∷ d ∷ []) ∙ new_read verb unit a b c d h.0 h.1.0 h.1.1.0 h.1.1.1.0 ∙ sym (is.four a b c d),
+  )
+  new_agrees (a ∷ b ∷ c ∷ d ∷ e ∷ rest) h =
+      inr (refuses _ _ _ (new_fails (a ∷ b ∷ c ∷ d ∷ e ∷ rest) ∙ new_many verb a b c d e h.0 h.1.0 h.1.1.0 h.1.1.1.0 h.1.1.1.1.0 rest), refl)
 
 bench_agrees : (rest : List Text) → Values rest → Agrees (codes "bench" ∷ rest)
 unfolding named command_form
@@ -250,18 +257,24 @@ is_or_differs a b = go (bytes_eq a b) refl
     go true e = inl ((bytes_eq-Decides a b).0 e)
     go false e = inr (λ same. true≢false (sym ((bytes_eq-Decides a b).1 same) ∙ e))
 
-abbrev picked : Bool → Bool → Bool → Bool → Option Text
-picked new run check bench = option_map (λ (s : Text × List Text). s.0)
+abbrev picked : Bool → Bool → Bool → Bool → Bool → Option Text
+picked new run check bench byte = option_map (λ (s : Text × List Text). s.0)
     (cond (new || false) (Some (codes "new", [])) (cond (run || false) (Some (codes "run", [])) (cond (check || false) (Some (codes "check", []))
-    (cond (bench || false) (Some (codes "bench", [])) None))))
+    (cond (bench || false) (Some (codes "bench", [])) (cond (byte || false) (Some (codes "newbyte", [])) None)))))
 
-module _ (w : Text) (is : IsValue w) (not_new : w ≢ codes "new") (not_run : w ≢ codes "run") (not_check : w ≢ codes "check") (not_bench : w ≢ codes "bench") where
+module _ (w : Text) (is : IsValue w) (not_new : w ≢ codes "new") (not_run : w ≢ codes "run") (not_check : w ≢ codes "check") (not_bench : w ≢ codes "bench")
+    (not_byte : w ≢ codes "newbyte") where
   none_met : subcommand_met (names_of whole) idle w ≡ None
   none_met =
-      ap (λ (t : Bool). picked t (bytes_eq (codes "run") w) (bytes_eq (codes "check") w) (bytes_eq (codes "bench") w)) (differs (codes "new") w (λ e. not_new (sym e)))
-      ∙ ap (λ (t : Bool). picked false t (bytes_eq (codes "check") w) (bytes_eq (codes "bench") w)) (differs (codes "run") w (λ e. not_run (sym e)))
-      ∙ ap (λ (t : Bool). picked false false t (bytes_eq (codes "bench") w)) (differs (codes "check") w (λ e. not_check (sym e)))
-      ∙ ap (λ (t : Bool). picked false false false t) (differs (codes "bench") w (λ e. not_bench (sym e)))
+      let run = bytes_eq (codes "run") w in
+      let check = bytes_eq (codes "check") w in
+      let bench = bytes_eq (codes "bench") w in
+      let byte = bytes_eq (codes "newbyte") w in
+      ap (λ (t : Bool). picked t run check bench byte) (differs (codes "new") w (λ e. not_new (sym e)))
+      ∙ ap (λ (t : Bool). picked false t check bench byte) (differs (codes "run") w (λ e. not_run (sym e)))
+      ∙ ap (λ (t : Bool). picked false false t bench byte) (differs (codes "check") w (λ e. not_check (sym e)))
+      ∙ ap (λ (t : Bool). picked false false false t byte) (differs (codes "bench") w (λ e. not_bench (sym e)))
+      ∙ ap (λ (t : Bool). picked false false false false t) (differs (codes "newbyte") w (λ e. not_byte (sym e)))
 
   other_fails : (rest : List Text) → fault_of program (w ∷ rest) ≡ UnknownArgument ∷ InvalidSubcommand ∷ []
   other_fails rest = refused_by whole w rest
@@ -279,7 +292,9 @@ module _ (w : Text) (is : IsValue w) (not_new : w ≢ codes "new") (not_run : w 
       ∙ ap (λ (t : Bool). cond t bench None) (differs w (codes "bench") not_bench)
   other_named (a ∷ b ∷ c ∷ []) = refl
   other_named (a ∷ b ∷ c ∷ d ∷ []) =
-      ap (λ (t : Bool). cond t (option_map (of_new a) (sizes_named (number_of b) (number_of c) (number_of d))) None) (differs w (codes "new") not_new)
+      let of_byte = new_named 1 a b c d in
+      ap (λ (t : Bool). cond t (new_named 8 a b c d) (cond (bytes_eq w (codes "newbyte")) of_byte None)) (differs w (codes "new") not_new)
+      ∙ ap (λ (t : Bool). cond t of_byte None) (differs w (codes "newbyte") not_byte)
   other_named (a ∷ b ∷ c ∷ d ∷ e ∷ rest) = refl
 
 none_fails : fault_of program [] ≡ MissingSubcommand ∷ []
@@ -295,14 +310,18 @@ words_agree [] h = inr (refuses _ _ _ none_fails, none_named)
 words_agree (w ∷ rest) h =
     let all : IsValue w × Values rest = values (w ∷ rest) h in
     elim (is_or_differs w (codes "new")) [
-      | inl e ↦ subst (λ v. Agrees (v ∷ rest)) (sym e) (new_agrees rest all.1)
+      | inl e ↦ subst (λ v. Agrees (v ∷ rest)) (sym e) (new_agrees (codes "new") 8 is_new rest all.1)
       | inr not_new ↦ elim (is_or_differs w (codes "run")) [
         | inl e ↦ subst (λ v. Agrees (v ∷ rest)) (sym e) (run_agrees rest all.1)
         | inr not_run ↦ elim (is_or_differs w (codes "check")) [
           | inl e ↦ subst (λ v. Agrees (v ∷ rest)) (sym e) (check_agrees rest all.1)
           | inr not_check ↦ elim (is_or_differs w (codes "bench")) [
             | inl e ↦ subst (λ v. Agrees (v ∷ rest)) (sym e) (bench_agrees rest all.1)
-            | inr not_bench ↦ inr (refuses _ _ _ (other_fails w all.0 not_new not_run not_check not_bench rest), other_named w all.0 not_new not_run not_check not_bench rest)
+            | inr not_bench ↦ elim (is_or_differs w (codes "newbyte")) [
+              | inl e ↦ subst (λ v. Agrees (v ∷ rest)) (sym e) (new_agrees (codes "newbyte") 1 is_new_byte rest all.1)
+              | inr not_byte ↦
+                  inr (refuses _ _ _ (other_fails w all.0 not_new not_run not_check not_bench not_byte rest), other_named w all.0 not_new not_run not_check not_bench not_byte rest)
+            ]
           ]
         ]
       ]

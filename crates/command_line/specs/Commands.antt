@@ -9,8 +9,9 @@ use Rattle.command_line.specs.Words.{Form, of_new, of_run, of_check, bench_named
 abbrev pub required : Text → Rule
 required name = record (new_rule name) { required = true }
 
-abbrev pub new_command : App
-new_command = with_rule (with_rule (with_rule (with_rule (new_app (codes "new")) (required (codes "IMAGE")))
+-- `new` and `newbyte` have the same values
+abbrev pub new_command : Text → App
+new_command name = with_rule (with_rule (with_rule (with_rule (new_app name) (required (codes "IMAGE")))
     (required (codes "BLOCKS"))) (required (codes "VPAGES"))) (required (codes "FPAGES"))
 
 abbrev pub run_command : App
@@ -36,16 +37,16 @@ closed s = record s {
 -- the program
 abbrev pub program : App
 program =
-    let image_commands = with_subcommand (with_subcommand (with_subcommand (new_app (codes "nvmhost")) new_command.top) run_command.top) check_command.top in
-    let app = with_subcommand image_commands bench_command.top in
+    let image_commands = with_subcommand (with_subcommand (with_subcommand (new_app (codes "nvmhost")) (new_command (codes "new")).top) run_command.top) check_command.top in
+    let app = with_subcommand (with_subcommand image_commands bench_command.top) (new_command (codes "newbyte")).top in
     record app { top = closed app.top }
 
 -- the number that a value is
 abbrev pub number_at : Text → List Row → Option ℕ
 number_at name values = option_and_then number_of (first_of name values)
 
-abbrev pub new_of : List Row → Option Form
-new_of values = option_and_then (λ image. option_map (of_new image)
+abbrev pub new_of : ℕ → List Row → Option Form
+new_of unit values = option_and_then (λ image. option_map (of_new unit image)
     (sizes_named (number_at (codes "BLOCKS") values) (number_at (codes "VPAGES") values) (number_at (codes "FPAGES") values)))
     (first_of (codes "IMAGE") values)
 
@@ -62,10 +63,11 @@ bench_of values = bench_named (number_at (codes "SEED") values) (number_at (code
 -- the form of a command with its values
 unfoldable pub command_form : Text → List Row → Option Form
 command_form name values =
-    if bytes_eq name (codes "new") then new_of values
+    if bytes_eq name (codes "new") then new_of 8 values
     else (if bytes_eq name (codes "run") then run_of values
     else (if bytes_eq name (codes "check") then check_of values
-    else (if bytes_eq name (codes "bench") then bench_of values else None)))
+    else (if bytes_eq name (codes "bench") then bench_of values
+    else (if bytes_eq name (codes "newbyte") then new_of 1 values else None))))
 
 -- the form of the command that was met, where one was
 abbrev pub met_form : Option (Text × List Row) → Option Form

@@ -5,21 +5,22 @@ use Rattle.nvm_base.specs.Numbers.{number_of}
 use Rattle.word_tables.specs.declared.geometry.Geometry.{Geometry}
 use Rattle.word_tables.specs.Bounds.{IsValid}
 use Rattle.command_line.specs.declared.form.Form.{Form as Read}
-use Rattle.command_line.specs.declared.form.Form.TheVariants.{New, Run, Check, Bench}
+use Rattle.command_line.specs.declared.form.Form.TheVariants.{New, Run, Check, Bench, NewByte}
 
--- a form of the command line, with the texts of its names and its numbers
+-- a form of the command line, with the texts of its names and its numbers; of a new image first the survival unit
 pub data Form : Type 0 where
-  of_new : List ℕ → Geometry → Form
+  of_new : ℕ → List ℕ → Geometry → Form
   of_run : List ℕ → List ℕ → Form
   of_check : List ℕ → Form
   of_bench : ℕ → ℕ → Form
 
 -- the form that was read
 abbrev pub form_of : Read → Form
-form_of (New image geometry) = of_new image.now geometry
+form_of (New image geometry) = of_new 8 image.now geometry
 form_of (Run from to) = of_run from.now to.now
 form_of (Check image) = of_check image.now
 form_of (Bench seed count) = of_bench seed count
+form_of (NewByte image geometry) = of_new 1 image.now geometry
 
 -- the three sizes, where each is a number
 abbrev pub sizes_named : Option ℕ → Option ℕ → Option ℕ → Option Geometry
@@ -34,6 +35,10 @@ bench_named (Some seed) (Some count) = Some (of_bench seed count)
 bench_named (Some seed) None = None
 bench_named None count = None
 
+-- the image of a new machine of this unit, where its sizes are numbers
+abbrev pub new_named : ℕ → List ℕ → List ℕ → List ℕ → List ℕ → Option Form
+new_named unit image blocks vpages fpages = option_map (of_new unit image) (sizes_named (number_of blocks) (number_of vpages) (number_of fpages))
+
 -- the form that the words name, by how many they are and the first of them
 unfoldable pub named : List (List ℕ) → Option Form
 named (verb ∷ image ∷ []) = if bytes_eq verb (codes "check") then Some (of_check image) else None
@@ -41,8 +46,8 @@ named (verb ∷ first ∷ second ∷ []) =
     if bytes_eq verb (codes "run") then Some (of_run first second)
     else (if bytes_eq verb (codes "bench") then bench_named (number_of first) (number_of second) else None)
 named (verb ∷ image ∷ blocks ∷ vpages ∷ fpages ∷ []) =
-    if bytes_eq verb (codes "new")
-    then option_map (of_new image) (sizes_named (number_of blocks) (number_of vpages) (number_of fpages)) else None
+    if bytes_eq verb (codes "new") then new_named 8 image blocks vpages fpages
+    else (if bytes_eq verb (codes "newbyte") then new_named 1 image blocks vpages fpages else None)
 named _ = None
 
 -- not empty, and not begun by a hyphen
@@ -52,7 +57,7 @@ IsPlain (first ∷ rest) = first ≢ 45
 
 -- sizes are within their limits
 abbrev pub HasSizes : Form → Type 0
-HasSizes (of_new image geometry) = IsValid geometry
+HasSizes (of_new unit image geometry) = IsValid geometry
 HasSizes (of_run from to) = Unit {0}
 HasSizes (of_check image) = Unit {0}
 HasSizes (of_bench seed count) = (1 ≤ count) × (count ≤ 100000)

@@ -16,16 +16,21 @@ pub(crate) fn program<'a>(alloc: Global) -> Result<Command<'a>, AllocError>
         .disable_help_subcommand(true)
         .disable_version_flag(true)
         .subcommand_required(true);
-    let program = with_new(alloc, base)?;
+    let program = with_new(alloc, base, "new")?;
     let program = with_run(alloc, program)?;
     let program = with_check(alloc, program)?;
-    with_bench(alloc, program)
+    let program = with_bench(alloc, program)?;
+    with_new(alloc, program, "newbyte")
 }
 
-fn with_new<'a>(alloc: Global, program: Command<'a>) -> Result<Command<'a>, AllocError>
-    ensures { IfOk result (λ c. app_of c ≡ with_subcommand (app_of program.entry) new_command.top) }
+fn with_new<'a>(
+    alloc: Global,
+    program: Command<'a>,
+    name: &'a str,
+) -> Result<Command<'a>, AllocError>
+    ensures { IfOk result (λ c. app_of c ≡ with_subcommand (app_of program.entry) (new_command name.entry.now).top) }
 {
-    let command = Command::new(alloc, "new")
+    let command = Command::new(alloc, name)
         .arg(required(alloc, "IMAGE"))?
         .arg(required(alloc, "BLOCKS"))?
         .arg(required(alloc, "VPAGES"))?

@@ -13,7 +13,7 @@ const MOST_ROUNDS: u64 = 100_000;
 /// A form of the command line.
 #[derive(Clone, Copy, Debug, PartialEq, Eq)]
 pub enum Form<'a> {
-    /// A new machine's image.
+    /// A new machine's image, of survival unit 8: a power cut keeps or loses a word whole.
     New { image: &'a str, geometry: Geometry },
     /// A script, run on one image and leaving another.
     Run { from: &'a str, to: &'a str },
@@ -21,6 +21,8 @@ pub enum Form<'a> {
     Check { image: &'a str },
     /// A workload, run on a fresh image.
     Bench { seed: u64, count: u64 },
+    /// The image of a new machine of survival unit 1: a power cut keeps or loses each byte independently.
+    NewByte { image: &'a str, geometry: Geometry },
 }
 
 impl<'a> Form<'a> {
@@ -40,7 +42,7 @@ impl<'a> Form<'a> {
         ensures { IsTrue result ↔ HasSizes (form_of self.now) }
     {
         match self {
-            Form::New { geometry, .. } => geometry.valid(),
+            Form::New { geometry, .. } | Form::NewByte { geometry, .. } => geometry.valid(),
             Form::Run { .. } | Form::Check { .. } => true,
             Form::Bench { count, .. } => (1..=MOST_ROUNDS).contains(count),
         }
@@ -57,12 +59,13 @@ fn named_form<'a>(matches: &ArgMatches<'a>) -> Option<Form<'a>>
         "run" => run_form(values),
         "check" => check_form(values),
         "bench" => bench_form(values),
+        "newbyte" => new_byte_form(values),
         _ => None,
     }
 }
 
 fn new_form<'a>(values: &ArgMatches<'a>) -> Option<Form<'a>>
-    ensures { option_map form_of result ≡ new_of (rows_of (found_of values.now)) }
+    ensures { option_map form_of result ≡ new_of 8 (rows_of (found_of values.now)) }
 {
     Some(Form::New {
         image: text(values, "IMAGE")?,
@@ -93,6 +96,15 @@ fn bench_form<'a>(values: &ArgMatches<'a>) -> Option<Form<'a>>
     Some(Form::Bench {
         seed: number(values, "SEED")?,
         count: number(values, "N")?,
+    })
+}
+
+fn new_byte_form<'a>(values: &ArgMatches<'a>) -> Option<Form<'a>>
+    ensures { option_map form_of result ≡ new_of 1 (rows_of (found_of values.now)) }
+{
+    Some(Form::NewByte {
+        image: text(values, "IMAGE")?,
+        geometry: geometry(values)?,
     })
 }
 

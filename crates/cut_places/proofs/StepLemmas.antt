@@ -184,6 +184,7 @@ ready_after h action ready program allowed =
       mode = kept.mode ∙ ready.mode;
       settled = kept.interrupted ∙ ready.settled;
       metadata = kept.metadata ∙ ready.metadata;
+      unit = kept.unit ∙ ready.unit;
       failures = kept.failures ∙ ready.failures;
     }
 

@@ -47,7 +47,7 @@ read_anew : (h : Machine) (image : Image) → FindsAnew (restarted h image)
 unfolding reading
 read_anew h image = by_list (bad_metadata h.geometry image.is_bad)
   where
-    by_list : (bad : List ℕ) → FindsAnew (record (read_with bad h.geometry image) { cut_armed = h.cut_armed; fail_armed = h.fail_armed })
+    by_list : (bad : List ℕ) → FindsAnew (record (read_with bad h.geometry image) { unit = image.unit; cut_armed = h.cut_armed; fail_armed = h.fail_armed })
     by_list [] = record { events = of_files (read_with [] h.geometry image).files; mappings = refl; handles = refl }
     by_list (line ∷ lines) = record { events = of_files []; mappings = refl; handles = refl }
 

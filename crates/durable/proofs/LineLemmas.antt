@@ -159,7 +159,7 @@ module _ (since : MayBe) where
         record {
           history = image.word (8 * n + i / 8) ∷ [];
           there = slice_get-list_from (λ p. image.word p ∷ []) (8 * n) 8 (i / 8) (omega arith);
-          word = word_keeps-one since.cut keeps.1.history (i % 8) (image.word (8 * n + i / 8)) v keeps.1.word cuts (kept.2 (i / 8) keeps.1.history keeps.1.there).was;
+          word = word_keeps-one since.cut image.unit keeps.1.history (i % 8) (image.word (8 * n + i / 8)) v keeps.1.word cuts (kept.2 (i / 8) keeps.1.history keeps.1.there).was;
         },
       )
 

@@ -263,7 +263,7 @@ no_stop h (CutIn calls) = tt
 no_stop h (FailIn calls) = tt
 no_stop h (Restart choice) = tt
 no_stop h Recover = tt
-no_stop h (Attr name) = value-stop (attribute name h.geometry)
+no_stop h (Attr name) = value-stop (attribute name h.geometry h.unit)
 no_stop h (Evict lines) = tt
 no_stop h (Map name span kind) = of_map NoStop h name span kind (λ line is. cc is) (λ line is. cc is)
 no_stop h (Load handle offset len) = of_load NoStop h handle offset len (λ line is. cc is) (λ name place line is. cc is) (λ m line is. cc is)
@@ -284,8 +284,8 @@ stop-restarted : (h : Machine) (image : Image) (line : ℕ) → mounted_answer (
 unfolding reading
 stop-restarted h image line = by_list (bad_metadata h.geometry image.is_bad)
   where
-    by_list : (bad : List ℕ) → mounted_answer (record (read_with bad h.geometry image) { cut_armed = h.cut_armed; fail_armed = h.fail_armed }) ≡ StoppedMeta line
-        → StopsAt line (record (read_with bad h.geometry image) { cut_armed = h.cut_armed; fail_armed = h.fail_armed })
+    by_list : (bad : List ℕ) → mounted_answer (record (read_with bad h.geometry image) { unit = image.unit; cut_armed = h.cut_armed; fail_armed = h.fail_armed }) ≡ StoppedMeta line
+        → StopsAt line (record (read_with bad h.geometry image) { unit = image.unit; cut_armed = h.cut_armed; fail_armed = h.fail_armed })
     by_list [] is = cc is
     by_list (first ∷ lines) is = (record { metadata = λ none. cc none; mode = λ on. cc on; blocks = refl; volume = refl; files = refl }, refl, cc is)
 

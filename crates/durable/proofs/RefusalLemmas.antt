@@ -199,7 +199,7 @@ refusing_reasons h (CutIn calls) = why_reasons _
 refusing_reasons h (FailIn calls) = why_reasons _
 refusing_reasons h (Restart choice) = why_reasons None
 refusing_reasons h Recover = why_reasons None
-refusing_reasons h (Attr name) = record { named = refuses_unknown (attribute name h.geometry); places = tt; full = tt; unreadable = tt }
+refusing_reasons h (Attr name) = record { named = refuses_unknown (attribute name h.geometry h.unit); places = tt; full = tt; unreadable = tt }
 refusing_reasons h (Evict lines) = why_reasons None
 
 pub refuses_before : (h : Machine) (action : Action) → Refuses (refused_before h action)

@@ -65,8 +65,11 @@ hole page count n pages among = ap (line_in n) (slice_get-map_from (discard_page
 pub shown_discarded : (later : Machine) (page count i : ℕ) (pages : List Page) (choice : Choice) → ShowsVolume choice (discard page count pages) later
     → is_among page count (i / 4096) ≡ true → byte_at_place later (of_volume i) ≡ Some 0
 shown_discarded later page count i pages choice shows among =
-    let number : i / 64 / 64 ≡ i / 4096 = omega arith in
-    subst (λ o. MayShow choice o (i % 64) (byte_at_place later (of_volume i))) (hole page count (i / 64) pages (ap (is_among page count) number ∙ among)) (shows i)
+    let number : i / 8 / 8 / 64 ≡ i / 4096 = omega arith in
+    let place : i ≡ 8 * (i / 8) + i % 8 = omega arith in
+    let none : cell_of (discard page count pages) (i / 8 / 8) ≡ None = hole page count (i / 8 / 8) pages (ap (is_among page count) number ∙ among) in
+    ap (λ p. byte_at_place later (of_volume p)) place
+    ∙ subst (λ o. MayShow later.unit choice o (i / 8 % 8) (λ k. byte_at_place later (of_volume (8 * (i / 8) + k)))) none (shows (i / 8)) (i % 8) (omega arith)
 
 -- the bytes of blocks that were written as a whole
 pub shown_blocks : (h next later : Machine) (block i : ℕ) (bytes : List ℕ) → BreaksOff h (BAtomic block bytes) next → later.blocks ≡ write block bytes h.blocks
@@ -87,4 +90,9 @@ hole_in name page count i files among =
 pub shown_holes : (later : Machine) (name : List ℕ) (page count i : ℕ) (files : List File) (choice : Choice) → ShowsFiles choice (discarded_in name page count files) later
     → is_among page count (i / 4096) ≡ true → byte_at_place later (of_file name i) ≡ Some 0
 shown_holes later name page count i files choice shows among =
-    subst (λ o. MayShow choice o (i % 64) (byte_at_place later (of_file name i))) (hole_in name page count i files among) (shows name i)
+    let line : i / 8 / 8 ≡ i / 64 = omega arith in
+    let place : i ≡ 8 * (i / 8) + i % 8 = omega arith in
+    let none : cell_of (pages_named name (discarded_in name page count files)) (i / 8 / 8) ≡ None =
+    ap (cell_of (pages_named name (discarded_in name page count files))) line ∙ hole_in name page count i files among in
+    ap (λ p. byte_at_place later (of_file name p)) place
+    ∙ subst (λ o. MayShow later.unit choice o (i / 8 % 8) (λ k. byte_at_place later (of_file name (8 * (i / 8) + k)))) none (shows name (i / 8)) (i % 8) (omega arith)

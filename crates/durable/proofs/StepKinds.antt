@@ -32,6 +32,7 @@ use Rattle.durable.specs.Whole.{IsMount}
 -- it leaves blocks, volume, files and mappings, and what is interrupted
 pub record Idles (h next : Machine) : Type 0 where
   pub geometry : next.geometry ≡ h.geometry
+  pub unit : next.unit ≡ h.unit
   pub blocks : next.blocks ≡ h.blocks
   pub volume : next.volume ≡ h.volume
   pub files : next.files ≡ h.files
@@ -59,6 +60,7 @@ files_made mappings action files = (meaning action).files mappings files
 -- it is done
 pub record Alters (h : Machine) (action : Action) (next : Machine) : Type 0 where
   pub geometry : next.geometry ≡ h.geometry
+  pub unit : next.unit ≡ h.unit
   pub blocks : next.blocks ≡ blocks_after action h.blocks
   pub volume : next.volume ≡ volume_after h.geometry action h.volume
   pub files : next.files ≡ files_made h.mappings action h.files
@@ -69,6 +71,7 @@ pub record Alters (h : Machine) (action : Action) (next : Machine) : Type 0 wher
 -- it is stopped
 pub record Stops (h : Machine) (action : Action) (next : Machine) : Type 0 where
   pub geometry : next.geometry ≡ h.geometry
+  pub unit : next.unit ≡ h.unit
   pub blocks : next.blocks ≡ h.blocks
   pub volume : next.volume ≡ h.volume
   pub files : next.files ≡ h.files
@@ -86,7 +89,9 @@ pub record Returns (h next : Machine) : Type 0 where
   pub choice : Choice
   pub image : Image
   pub may : MayLeaveStorage choice image h
+  pub image_unit : next.unit ≡ image.unit
   pub geometry : next.geometry ≡ h.geometry
+  pub unit : next.unit ≡ h.unit
   pub blocks : next.blocks ≡ blocks_read h.geometry image.is_bad image.word
   pub volume : next.volume ≡ read_pages (volume_line h.geometry) image (presence_read h.geometry image.word)
   pub files : next.files ≡ files_read h.geometry image
@@ -97,6 +102,7 @@ pub record Returns (h next : Machine) : Type 0 where
 pub record Remounts (h next : Machine) : Type 0 where
   pub metadata : h.bad_meta ≡ []
   pub geometry : next.geometry ≡ h.geometry
+  pub unit : next.unit ≡ h.unit
   pub blocks : MayLeaveBlocks h.interrupted h.blocks next.blocks
   pub volume : MayLeaveVolume h.geometry h.interrupted h.volume next.volume
   pub files : MayLeaveFiles h.mappings h.interrupted h.files next.files
@@ -106,6 +112,7 @@ pub record Remounts (h next : Machine) : Type 0 where
 -- metadata was bad as it was to be mounted
 pub record Empties (h next : Machine) : Type 0 where
   pub geometry : next.geometry ≡ h.geometry
+  pub unit : next.unit ≡ h.unit
   pub nothing : HasNothing next
 
 -- it makes nothing durable, and changes no files

@@ -42,6 +42,7 @@ pub record Taken (h : Machine) (action : Action) (said : Transcript) (next : Mac
 idle_at : (h to next : Machine) → Idles h to → next ≡ to → Idles h next
 idle_at h to next idle is = record {
   geometry = ap (λ m. m.geometry) is ∙ idle.geometry;
+  unit = ap (λ m. m.unit) is ∙ idle.unit;
   blocks = ap (λ m. m.blocks) is ∙ idle.blocks;
   volume = ap (λ m. m.volume) is ∙ idle.volume;
   files = ap (λ m. m.files) is ∙ idle.files;
@@ -55,6 +56,7 @@ idle_at h to next idle is = record {
 altered_at : (h : Machine) (action : Action) (to next : Machine) → Alters h action to → next ≡ to → Alters h action next
 altered_at h action to next done is = record {
   geometry = ap (λ m. m.geometry) is ∙ done.geometry;
+  unit = ap (λ m. m.unit) is ∙ done.unit;
   blocks = ap (λ m. m.blocks) is ∙ done.blocks;
   volume = ap (λ m. m.volume) is ∙ done.volume;
   files = ap (λ m. m.files) is ∙ done.files;
@@ -69,6 +71,7 @@ ended h action good to answer next none begun done (inl end) =
     alters (elim begun as (λ _. IsDone answer ⊎ TouchesNothing action) [ inl is ↦ inl (subst IsDone (sym end.0) is) | inr none ↦ inr none ]) none (altered_at h action to next done end.1)
 ended h action good to answer next none begun done (inr end) = stops end.0 end.1 none (record {
   geometry = ap (λ m. m.geometry) end.2.state;
+  unit = ap (λ m. m.unit) end.2.state;
   blocks = ap (λ m. m.blocks) end.2.state;
   volume = ap (λ m. m.volume) end.2.state;
   files = ap (λ m. m.files) end.2.state;
@@ -82,6 +85,7 @@ ended h action good to answer next none begun done (inr end) = stops end.0 end.1
 
 -- a state that is read from a medium, or was interrupted there
 record IsRead (read next : Machine) : Type 0 where
+  unit : next.unit ≡ read.unit
   geometry : next.geometry ≡ read.geometry
   blocks : next.blocks ≡ read.blocks
   volume : next.volume ≡ read.volume
@@ -94,6 +98,7 @@ is_read : (read to : Machine) (good answer : Answer) (next : Machine) → to ≡
 is_read read to good answer next of (inl end) =
     let is = end.1 ∙ of in
     record {
+      unit = ap (λ m. m.unit) is;
       geometry = ap (λ m. m.geometry) is;
       blocks = ap (λ m. m.blocks) is;
       volume = ap (λ m. m.volume) is;
@@ -103,6 +108,7 @@ is_read read to good answer next of (inl end) =
       mode = inl (ap (λ m. m.mode) is);
     }
 is_read read to good answer next of (inr end) = record {
+  unit = ap (λ m. m.unit) end.2.state ∙ ap (λ m. m.unit) of;
   geometry = ap (λ m. m.geometry) end.2.state ∙ ap (λ m. m.geometry) of;
   blocks = ap (λ m. m.blocks) end.2.state ∙ ap (λ m. m.blocks) of;
   volume = ap (λ m. m.volume) end.2.state ∙ ap (λ m. m.volume) of;
@@ -124,8 +130,8 @@ reads_back h choice image answer next off may ends = by_metadata h.bad_meta refl
     from : IsRead (reading h.geometry image) next
     from = is_read (reading h.geometry image) (restarted h image) (mounted_answer (restarted h image)) answer next refl ends
 
-    read_as : (bad : List ℕ) → h.bad_meta ≡ bad → IsRead (read_with bad h.geometry image) next
-    read_as bad is = subst (λ b. IsRead (read_with b h.geometry image) next) (may.metadata ∙ is) from
+    read_as : (bad : List ℕ) → h.bad_meta ≡ bad → IsRead (record (read_with bad h.geometry image) { unit = image.unit }) next
+    read_as bad is = subst (λ b. IsRead (record (read_with b h.geometry image) { unit = image.unit }) next) (may.metadata ∙ is) from
 
     by_metadata : (bad : List ℕ) → h.bad_meta ≡ bad → ReadsBack choice h next
     by_metadata [] is =
@@ -136,7 +142,9 @@ reads_back h choice image answer next off may ends = by_metadata h.bad_meta refl
           choice = choice;
           image = image;
           may = may.storage is;
+          image_unit = read.unit;
           geometry = read.geometry;
+          unit = read.unit ∙ may.unit;
           blocks = read.blocks;
           volume = read.volume;
           files = read.files;
@@ -148,6 +156,7 @@ reads_back h choice image answer next off may ends = by_metadata h.bad_meta refl
         let read = read_as (line ∷ lines) is in
         inr (record {
           geometry = read.geometry;
+          unit = read.unit ∙ may.unit;
           nothing = record {
             metadata = λ none. cc (none, read.metadata);
             mode = λ on. elim read.mode as (λ _. ⊥) [ inl at ↦ cc (at, on) | inr by ↦ stops_on by.0 (sym by.1 ∙ on) ];
@@ -167,6 +176,7 @@ pub mounts_anew : (h next : Machine) (bad : List ℕ) → h.bad_meta ≡ bad →
 mounts_anew h next [] is to = inl (record {
   metadata = is;
   geometry = ap (λ m. m.geometry) to.state;
+  unit = ap (λ m. m.unit) to.state;
   blocks = to.blocks;
   volume = to.volume;
   files = to.files;
@@ -175,6 +185,7 @@ mounts_anew h next [] is to = inl (record {
 })
 mounts_anew h next (line ∷ lines) is to = inr (record {
   geometry = ap (λ m. m.geometry) to;
+  unit = ap (λ m. m.unit) to;
   nothing = record {
     metadata = λ none. cc (none, ap (λ m. m.bad_meta) to);
     mode = λ on. cc (on, ap (λ m. m.mode) to);
@@ -193,6 +204,7 @@ remounted h action answer next covers bad is to =
 unmounted : (by : Interruption) (h next : Machine) → Interrupts by h next → Idles h next
 unmounted by h next at = record {
   geometry = ap (λ m. m.geometry) at.state;
+  unit = ap (λ m. m.unit) at.state;
   blocks = ap (λ m. m.blocks) at.state;
   volume = ap (λ m. m.volume) at.state;
   files = ap (λ m. m.files) at.state;
@@ -243,6 +255,15 @@ geometry_step h action answer next (returns none back) = back.geometry
 geometry_step h action answer next (remounts none back) = back.geometry
 geometry_step h action answer next (empties none to) = to.geometry
 
+-- and the unit
+pub unit_step : (h : Machine) (action : Action) (answer : Answer) (next : Machine) → Step h action answer next → next.unit ≡ h.unit
+unit_step h action answer next (idles why to) = to.unit
+unit_step h action answer next (alters begun none to) = to.unit
+unit_step h action answer next (stops by is none to) = to.unit
+unit_step h action answer next (returns none back) = back.unit
+unit_step h action answer next (remounts none back) = back.unit
+unit_step h action answer next (empties none to) = to.unit
+
 -- nothing is there any more, and nothing comes back
 nothing_as : (h next : Machine) → next.blocks ≡ h.blocks → next.volume ≡ h.volume → next.files ≡ h.files → (h.bad_meta ≢ [] → next.bad_meta ≢ []) → (next.mode ≡ On → h.mode ≡ On) → HasNothing h → HasNothing next
 nothing_as h next blocks volume files metadata mode gone = record {
@@ -289,3 +310,13 @@ geometry_heard h (Asked action) said next heard = let taken = step_of h action s
 pub geometry_run : (inputs : List Input) (h later : Machine) (said : Transcript) → Run h inputs said later → later.geometry ≡ h.geometry
 geometry_run [] h later said run = ap (λ m. m.geometry) run.1
 geometry_run (input ∷ inputs) h later said run = geometry_run inputs run.2 later run.1 run.5 ∙ geometry_heard h input run.0 run.2 run.4
+
+unit_heard : (h : Machine) (input : Input) (said : Transcript) (next : Machine) → Hears h input said next → next.unit ≡ h.unit
+unit_heard h Skipped said next heard = ap (λ m. m.unit) heard.1
+unit_heard h Malformed said next heard = ap (λ m. m.unit) heard.1
+unit_heard h Overlong said next heard = ap (λ m. m.unit) heard.1
+unit_heard h (Asked action) said next heard = let taken = step_of h action said next heard in unit_step h action taken.answer next taken.step
+
+pub unit_run : (inputs : List Input) (h later : Machine) (said : Transcript) → Run h inputs said later → later.unit ≡ h.unit
+unit_run [] h later said run = ap (λ m. m.unit) run.1
+unit_run (input ∷ inputs) h later said run = unit_run inputs run.2 later run.1 run.5 ∙ unit_heard h input run.0 run.2 run.4

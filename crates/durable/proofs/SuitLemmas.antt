@@ -1,5 +1,6 @@
 -- What a command may come to, and what that leaves.
 use Rattle.std.proofs.Common.{◌≡◌, ◌⊎◌, inl, inr, ℕ, ◌+◌, ◌==◌, Bool, true, false, cond, nat_lt, Option, Some, None, List, [], ◌∷◌, refl, sym, ap, ◌∙◌, if◌then◌else◌}
+use Rattle.word_tables.specs.declared.geometry.Geometry.{Geometry}
 use Rattle.reply_text.specs.Answer.Answer.{Done, Handle}
 use Rattle.script_text.specs.Action.{Action}
 use Rattle.script_text.specs.Action.Action.{BRead, BWrite, BAtomic, BMulti, BDiscard, BDiscardIf, BExists, BScar, VLoad, VStore, VSync, VRanges, VPSync, VDiscard, VDiscardIf, VExists, Create, Delete, Rename, Resize, ListFiles, FRead, FWrite, FAtomic, FMulti, FDiscard, FSync, Map, Unmap, Load, Store, Sync, Flush, FlushVerify, DeepFlush, NextEvent, CheckFile, PoisonBlock, PoisonVolume, PoisonFile, PoisonMeta, WeakenFile, WeakenVolume, ClearFile, ClearVolume, Cut, CutIn, FailIn, Restart, Recover, Attr, Evict}
@@ -42,6 +43,7 @@ nowhere (of_file name i) = refl
 pub same : (h : Machine) → Idles h h
 same h = record {
   geometry = refl;
+  unit = refl;
   blocks = refl;
   volume = refl;
   files = refl;
@@ -52,15 +54,20 @@ same h = record {
   stopped = λ is. is;
 }
 
-works : (h to : Machine) (action : Action) → to.geometry ≡ h.geometry → to.blocks ≡ blocks_after action h.blocks → to.volume ≡ volume_after h.geometry action h.volume
-    → to.files ≡ files_made h.mappings action h.files → to.interrupted ≡ h.interrupted → to.mode ≡ h.mode → (meaning action).needs ≡ Usable → Alters h action to
-works h to action geometry blocks volume files interrupted mode needs =
-    record { geometry = geometry; blocks = blocks; volume = volume; files = files; interrupted = interrupted; mode = mode; needs = needs }
+-- the sizes of a state's medium, and its unit
+abbrev sizes_of : Machine → Geometry × ℕ
+sizes_of h = (h.geometry, h.unit)
 
-armed : (h to : Machine) → to.geometry ≡ h.geometry → to.blocks ≡ h.blocks → to.volume ≡ h.volume → to.files ≡ h.files → to.mappings ≡ h.mappings
+works : (h to : Machine) (action : Action) → sizes_of to ≡ sizes_of h → to.blocks ≡ blocks_after action h.blocks → to.volume ≡ volume_after h.geometry action h.volume
+    → to.files ≡ files_made h.mappings action h.files → to.interrupted ≡ h.interrupted → to.mode ≡ h.mode → (meaning action).needs ≡ Usable → Alters h action to
+works h to action sizes blocks volume files interrupted mode needs =
+    record { geometry = ap (λ (s : Geometry × ℕ). s.0) sizes; unit = ap (λ (s : Geometry × ℕ). s.1) sizes; blocks = blocks; volume = volume; files = files; interrupted = interrupted; mode = mode; needs = needs }
+
+armed : (h to : Machine) → sizes_of to ≡ sizes_of h → to.blocks ≡ h.blocks → to.volume ≡ h.volume → to.files ≡ h.files → to.mappings ≡ h.mappings
     → to.interrupted ≡ h.interrupted → to.bad_meta ≡ h.bad_meta → to.mode ≡ h.mode → Idles h to
-armed h to geometry blocks volume files mappings interrupted metadata mode = record {
-  geometry = geometry;
+armed h to sizes blocks volume files mappings interrupted metadata mode = record {
+  geometry = ap (λ (s : Geometry × ℕ). s.0) sizes;
+  unit = ap (λ (s : Geometry × ℕ). s.1) sizes;
   blocks = blocks;
   volume = volume;
   files = files;
@@ -197,6 +204,7 @@ suits h (PoisonMeta line) = inl (
   record { bytes = nowhere; files = refl },
   record {
     geometry = refl;
+    unit = refl;
     blocks = refl;
     volume = refl;
     files = refl;
@@ -212,7 +220,7 @@ suits h (WeakenVolume offset) = inr (inl (inl refl), works h _ (WeakenVolume off
 suits h (ClearFile name offset) = (inl (inl refl), works h _ (ClearFile name offset) refl refl refl refl refl refl refl)
 suits h (ClearVolume offset) = (inl (inl refl), works h _ (ClearVolume offset) refl refl refl refl refl refl refl)
 suits h Cut =
-    (record { bytes = nowhere; files = refl }, record { geometry = refl; blocks = refl; volume = refl; files = refl; mappings = refl; interrupted = refl; metadata = λ bad. bad; mode = λ on. cc on; stopped = λ is. cc is })
+    (record { bytes = nowhere; files = refl }, record { geometry = refl; unit = refl; blocks = refl; volume = refl; files = refl; mappings = refl; interrupted = refl; metadata = λ bad. bad; mode = λ on. cc on; stopped = λ is. cc is })
 suits h (CutIn calls) = (record { bytes = nowhere; files = refl }, armed h _ refl refl refl refl refl refl refl refl)
 suits h (FailIn calls) = (record { bytes = nowhere; files = refl }, armed h _ refl refl refl refl refl refl refl refl)
 suits h (Restart choice) = (record { bytes = nowhere; files = refl }, refl, refl)

@@ -117,7 +117,7 @@ tells h (WeakenFile name offset) none stay = quiet h _ Done refl refl (weakened_
 tells h (ClearFile name offset) none stay = quiet h _ Done refl refl (cleared_no_worse name offset h.files)
 tells h (Restart choice) none stay = refl
 tells h Recover none stay = refl
-tells h (Attr name) none stay = unchanged h h _ (value_silent (attribute name h.geometry)) refl refl
+tells h (Attr name) none stay = unchanged h h _ (value_silent (attribute name h.geometry h.unit)) refl refl
 tells h action none stay = unchanged h _ _ refl refl refl
 
 -- one that changes it tells nothing, and no event comes by it

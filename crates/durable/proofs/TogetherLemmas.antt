@@ -3,10 +3,10 @@ use Rattle.std.proofs.Common.{◌≡◌, ◌||◌, ◌*◌, inl, inr, ℕ, ◌+�
 use Rattle.std.specs.Prelude.{slice_index, slice_index_or}
 use Rattle.std.specs.List.{list_any}
 use Rattle.std.specs.Int.{byte_at}
-use Rattle.line_device.specs.History.{IsIn, newest}
+use Rattle.line_device.specs.History.{MayKeep, newest}
 use Rattle.line_device.specs.Word.{word_at}
 use Rattle.line_device.specs.declared.line.Choice.{Choice}
-use Rattle.line_device.proofs.HistoryLemmas.{is_in-one}
+use Rattle.line_device.proofs.TornLemmas.{may_keep-one}
 use Rattle.std.proofs.lemmas.Bool.{both_ways, not-false, not-true, or_parts}
 use Rattle.std.proofs.lemmas.Bool.Decides.{nat_tests}
 use Rattle.std.proofs.lemmas.List.{get_or-drop}
@@ -17,6 +17,7 @@ use Rattle.nvm_base.specs.Units.{overlap}
 use Rattle.nvm_base.proofs.FirstLemmas.{not_mapped}
 use Rattle.range_sets.specs.Ranges.{has_address, is_disjoint, total_of}
 use Rattle.range_sets.proofs.PlaceLemmas.{disjoint_parts, none_has, total_of-cons}
+use Rattle.nvm_model.specs.Cell.{Cell}
 use Rattle.nvm_model.specs.Numbered.{is_among, list_from}
 use Rattle.nvm_model.specs.Page.{Page, byte_in, cell_of, touches_page}
 use Rattle.nvm_model.specs.Storage.{File}
@@ -86,11 +87,20 @@ some_page (r ∷ before) after range i among = by_test (touches_page r.start r.l
     by_test false later = later
 
 -- a durable line shows the one value of each of its words
-durable_exact : (choice : Choice) (byte : ℕ → ℕ) (n k : ℕ) (shown : Option ℕ) → k < 64 → MayShow choice (Some (durable_line byte n)) k shown → shown ≡ line_has (Some (durable_line byte n)) k
-durable_exact choice byte n k shown lt may =
-    let word : slice_index_or (list_from (λ w. word_at (list_from byte (64 * n) 64) w ∷ []) 0 8) (k / 8) [] ≡ word_at (list_from byte (64 * n) 64) (k / 8) ∷ [] = durable_word byte n k lt in
-    let same : may.0 ≡ word_at (list_from byte (64 * n) 64) (k / 8) = is_in-one may.0 _ (subst (IsIn may.0) word may.1.was) in
-    may.2 ∙ ap (λ u. Some (byte_at (k % 8) u)) same ∙ sym (ap (λ h. Some (byte_at (k % 8) (newest h))) word)
+durable_exact : (unit : ℕ) (choice : Choice) (byte : ℕ → ℕ) (n w k : ℕ) (shown : ℕ → Option ℕ) → w < 8 → k < 8 → MayShow unit choice (Some (durable_line byte n)) w shown
+    → shown k ≡ line_has (Some (durable_line byte n)) (8 * w + k)
+durable_exact unit choice byte n w k shown low lt may =
+    let words : List (List ℕ) = list_from (λ v. word_at (list_from byte (64 * n) 64) v ∷ []) 0 8 in
+    let i : ℕ = 8 * w + k in
+    let at : i / 8 ≡ w = omega arith in
+    let rest : k ≡ i % 8 = omega arith in
+    let word : slice_index_or words (i / 8) [] ≡ word_at (list_from byte (64 * n) 64) (i / 8) ∷ [] = durable_word byte n i (omega arith) in
+    let same : may.0 ≡ word_at (list_from byte (64 * n) 64) (i / 8) =
+    may_keep-one unit may.0 _ (subst (MayKeep unit may.0) (ap (λ v. slice_index_or words v []) (sym at) ∙ word) may.1.was) in
+    may.2 k lt
+    ∙ ap (λ u. Some (byte_at k u)) same
+    ∙ ap (λ j. Some (byte_at j (word_at (list_from byte (64 * n) 64) (i / 8)))) rest
+    ∙ sym (ap (λ h. Some (byte_at (i % 8) (newest h))) word)
 
 -- what the pages of the file have then
 module _ (before after : List Span) (range : Span) (bytes : List ℕ) (i : ℕ) (small : (k : ℕ) → get_or bytes k 0 < 256) (among : is_among range.start range.len i ≡ true) where
@@ -150,8 +160,15 @@ module _ (before after : List Span) (range : Span) (bytes : List ℕ) (i : ℕ) 
   pub restart_shows : (choice : Choice) (name : List ℕ) (files : List File) (later : Machine) → together_refusal (length (pages_named name files)) ranges ≡ None
       → ShowsFiles choice (written_together name ranges bytes files) later → byte_at_place later (of_file name i) ≡ Some (slice_index bytes (total_of before + (i - range.start)))
   restart_shows choice name files later none shows =
-      durable_exact choice (byte_rewritten ranges bytes (pages_named name files)) (i / 64) (i % 64) (byte_at_place later (of_file name i)) (omega arith)
-      (subst (λ o. MayShow choice o (i % 64) (byte_at_place later (of_file name i))) (file_line name files none) (shows name i))
+      let line : i / 8 / 8 ≡ i / 64 = omega arith in
+      let place : i ≡ 8 * (i / 8) + i % 8 = omega arith in
+      let within_line : 8 * (i / 8 % 8) + i % 8 ≡ i % 64 = omega arith in
+      let left : List Page = pages_named name (written_together name ranges bytes files) in
+      let whole : Cell = durable_line (byte_rewritten ranges bytes (pages_named name files)) (i / 64) in
+      ap (λ p. byte_at_place later (of_file name p)) place
+      ∙ durable_exact later.unit choice (byte_rewritten ranges bytes (pages_named name files)) (i / 64) (i / 8 % 8) (i % 8) (λ k. byte_at_place later (of_file name (8 * (i / 8) + k))) (omega arith) (omega arith)
+      (subst (λ o. MayShow later.unit choice o (i / 8 % 8) (λ k. byte_at_place later (of_file name (8 * (i / 8) + k)))) (ap (cell_of left) line ∙ file_line name files none) (shows name (i / 8)))
+      ∙ ap (line_has (Some whole)) within_line
       ∙ line_shows (pages_named name files) none
 
 -- a byte of one of several ranges

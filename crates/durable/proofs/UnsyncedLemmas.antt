@@ -6,6 +6,7 @@ use Rattle.line_device.specs.History.{IsIn, newest}
 use Rattle.line_device.specs.Medium.{word_stored}
 use Rattle.line_device.specs.Panel.{Image, Start}
 use Rattle.line_device.specs.declared.line.Choice.TheVariants.{Firsts}
+use Rattle.line_device.proofs.TornLemmas.{may_keep-in}
 use Rattle.word_tables.specs.declared.geometry.Geometry.{Geometry}
 use Rattle.word_tables.specs.Layout.{volume_line}
 use Rattle.nvm_model.specs.Numbered.{list_from, map_from}
@@ -43,7 +44,7 @@ first_kept at p x bytes = by_test (reaches at (length bytes) p)
 module _ (image : Image) (n at : ℕ) (bytes : List ℕ) where
   -- n is the line of the device
   word_kept : (line w : ℕ) (history : List ℕ) → slice_get (map_from (word_stored at bytes) (8 * line) (list_from (λ p. image.word p ∷ []) (8 * n) 8)) w ≡ Some history
-      → MaySurvive Firsts history (image.word (8 * n + w))
+      → MaySurvive image.unit Firsts history (image.word (8 * n + w))
   word_kept line w history found =
       let words = map_from (word_stored at bytes) (8 * line) (list_from (λ p. image.word p ∷ []) (8 * n) 8) in
       let small : w < 8 = omega (
@@ -56,7 +57,8 @@ module _ (image : Image) (n at : ℕ) (bytes : List ℕ) where
       sym (slice_get-map_from (word_stored at bytes) (8 * line) (list_from (λ p. image.word p ∷ []) (8 * n) 8) w
       ∙ ap (option_map (word_stored at bytes (8 * line + w))) (slice_get-list_from (λ p. image.word p ∷ []) (8 * n) 8 w small)) ∙ found in
       record {
-        was = subst (IsIn (image.word (8 * n + w))) (same_Some _ history is) (first_kept at (8 * line + w) (image.word (8 * n + w)) bytes);
+        was = may_keep-in image.unit (image.word (8 * n + w)) history
+            (subst (IsIn (image.word (8 * n + w))) (same_Some _ history is) (first_kept at (8 * line + w) (image.word (8 * n + w)) bytes));
         last = λ lasts. cc lasts;
       }
 
@@ -94,7 +96,7 @@ abbrev off : Machine → Machine
 off h = record h { mode = Off; cut_armed = false; fail_armed = false }
 
 abbrev held : Geometry → Image → Machine
-held geo image = read_with [] geo image
+held geo image = record (read_with [] geo image) { unit = image.unit }
 
 abbrev stored_over : Geometry → Image → ℕ → List ℕ → Machine
 stored_over geo image at bytes = record (held geo image) { volume = put at bytes (held geo image).volume }
@@ -115,7 +117,7 @@ good_metadata geo image on = by_list (bad_metadata geo image.is_bad) on
 
 held_is : (geo : Geometry) (image : Image) → bad_metadata geo image.is_bad ≡ [] → reading geo image ≡ held geo image
 unfolding reading
-held_is geo image none = ap (λ b. read_with b geo image) none
+held_is geo image none = ap (λ b. record (read_with b geo image) { unit = image.unit }) none
 
 -- a restart comes back to it
 back_at : (geo : Geometry) (image : Image) (h : Machine) → bad_metadata geo image.is_bad ≡ [] → reading geo image ≡ record (reading geo image) { cut_armed = false; fail_armed = false }
@@ -146,6 +148,7 @@ lost geo image at bytes none good =
           refl,
           refl,
           record {
+            unit = refl;
             metadata = none;
             storage = λ same. record {
               blocks = refl;

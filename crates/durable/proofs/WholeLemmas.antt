@@ -230,7 +230,7 @@ whole-run [] h later said whole run = subst IsComplete (sym run.1) whole
 whole-run (input ∷ inputs) h later said whole run =
     whole-run inputs run.2 later run.1 (whole-heard h input run.0 run.2 whole run.4) run.5
 
-whole-armed : (bad : List ℕ) (geo : Geometry) (image : Image) (cut fail : Bool) → IsComplete (record (read_with bad geo image) { cut_armed = cut; fail_armed = fail })
+whole-armed : (bad : List ℕ) (geo : Geometry) (image : Image) (cut fail : Bool) → IsComplete (record (read_with bad geo image) { unit = image.unit; cut_armed = cut; fail_armed = fail })
 whole-armed [] geo image cut fail = record {
   counted = inl (record { blocks = length-read geo image.is_bad image.word; pages = pages-read geo image });
   eight = eight-read geo image.is_bad image.word;
@@ -240,7 +240,7 @@ whole-armed [] geo image cut fail = record {
   stopped = λ at. cc at;
 }
 whole-armed (line ∷ lines) geo image cut fail =
-    whole-nothing (record (stopped_by geo (line ∷ lines)) { cut_armed = cut; fail_armed = fail })
+    whole-nothing (record (stopped_by geo (line ∷ lines)) { unit = image.unit; cut_armed = cut; fail_armed = fail })
     (record { metadata = λ none. cc none; mode = λ on. cc on; blocks = refl; volume = refl; files = refl })
 
 -- a machine that is read from an image

@@ -1,5 +1,5 @@
 -- What is there once a write as a whole was stopped, and the storage is mounted.
-use Rattle.std.proofs.Common.{◌≡◌, ◌⊎◌, ◌*◌, inl, inr, ℕ, ◌+◌, ◌/◌, ◌%◌, Bool, true, false, cond, Option, Some, None, List, [], ◌∷◌, slice_index_or, refl, sym, ap, subst, ◌∙◌, arith}
+use Rattle.std.proofs.Common.{◌≡◌, ◌<◌, ◌⊎◌, ◌*◌, inl, inr, ℕ, ◌+◌, ◌/◌, ◌%◌, Bool, true, false, cond, Option, Some, None, List, [], ◌∷◌, slice_index_or, refl, sym, ap, subst, ◌∙◌, arith}
 use Rattle.std.specs.Int.{byte_at}
 use Rattle.std.proofs.lemmas.Bool.{both_ways}
 use Rattle.std.proofs.lemmas.Option.{get_or_from_slice_get, slice_get-get_or}
@@ -200,10 +200,16 @@ recovered write h next later said breaks heard mounted = by_refusal (refusal nex
       }))
     ]
 
+-- of bytes that are the same the same may be shown
+shown_same : (unit : ℕ) (choice : Choice) (o : Option Cell) (w : ℕ) (one other : ℕ → Option ℕ) → ((k : ℕ) → k < 8 → other k ≡ one k) → MayShow unit choice o w one → MayShow unit choice o w other
+shown_same unit choice None w one other same may = λ k lt. same k lt ∙ may k lt
+shown_same unit choice (Some Bad) w one other same may = λ k lt. same k lt ∙ may k lt
+shown_same unit choice (Some (Kept weak words)) w one other same may = (may.0, may.1, λ k lt. same k lt ∙ may.2 k lt)
+
 -- what a restart reads of pages
-shows_read : (choice : Choice) (place : ℕ → ℕ) (image : Image) (pages : List Page) (i : ℕ) → HaveLines pages → KeepsPages choice place image pages
-    → MayShow choice (cell_of pages (i / 64)) (i % 64) (line_has (cell_of (read_pages place image (presence_of pages)) (i / 64)) (i % 64))
-shows_read choice place image pages i lines keeps = by_presence (is_line_present pages (i / 64)) refl
+shows_read : (choice : Choice) (place : ℕ → ℕ) (image : Image) (pages : List Page) (w : ℕ) → HaveLines pages → KeepsPages choice place image pages
+    → MayShow image.unit choice (cell_of pages (w / 8)) (w % 8) (λ k. line_has (cell_of (read_pages place image (presence_of pages)) (w / 8)) (8 * (w % 8) + k))
+shows_read choice place image pages w lines keeps = by_presence (is_line_present pages (w / 8)) refl
   where
     read : List Page
     read = read_pages place image (presence_of pages)
@@ -211,49 +217,75 @@ shows_read choice place image pages i lines keeps = by_presence (is_line_present
     word : ℕ → List ℕ
     word p = image.word p ∷ []
 
-    value : ℕ
-    value = image.word (8 * place (i / 64) + (i % 64) / 8)
+    words_left : List (List ℕ)
+    words_left = list_from word (8 * place (w / 8)) 8
 
-    by_cell : (o : Option Cell) → IsLineThere o → ((cell : Cell) → o ≡ Some cell → KeepsCell choice image (place (i / 64)) cell)
-        → MayShow choice o (i % 64) (line_has (Some (cond (image.is_bad (place (i / 64))) Bad (Kept (image.is_weak (place (i / 64))) (list_from word (8 * place (i / 64)) 8)))) (i % 64))
+    value : ℕ
+    value = image.word (8 * place (w / 8) + w % 8)
+
+    shows : Bool → ℕ → Option ℕ
+    shows bad k = line_has (Some (cond bad Bad (Kept (image.is_weak (place (w / 8))) words_left))) (8 * (w % 8) + k)
+
+    -- byte k of the word that is left
+    byte_left : (k : ℕ) → k < 8 → shows false k ≡ Some (byte_at k value)
+    byte_left k lt =
+        let i : ℕ = 8 * (w % 8) + k in
+        let at : i / 8 ≡ w % 8 = omega arith in
+        let rest : i % 8 ≡ k = omega arith in
+        ap (λ v. Some (byte_at (i % 8) (newest (slice_index_or words_left v [])))) at
+        ∙ ap (λ h. Some (byte_at (i % 8) (newest h))) (get_or_from_slice_get words_left (w % 8) (value ∷ []) [] (slice_get-list_from word (8 * place (w / 8)) 8 (w % 8) (omega arith)))
+        ∙ ap (λ j. Some (byte_at j value)) rest
+
+    by_cell : (o : Option Cell) → IsLineThere o → ((cell : Cell) → o ≡ Some cell → KeepsCell choice image (place (w / 8)) cell)
+        → MayShow image.unit choice o (w % 8) (shows (image.is_bad (place (w / 8))))
     by_cell None none kept = absurd none
-    by_cell (Some Bad) size kept = ap (λ b. line_has (Some (cond b Bad (Kept (image.is_weak (place (i / 64))) (list_from word (8 * place (i / 64)) 8)))) (i % 64)) (kept Bad refl)
+    by_cell (Some Bad) size kept = λ k lt. ap (λ b. shows b k) (kept Bad refl)
     by_cell (Some (Kept weak words)) size kept =
         let keeps_cell = kept (Kept weak words) refl in (
           value,
-          keeps_cell.2 ((i % 64) / 8) (slice_index_or words ((i % 64) / 8) []) (slice_get-get_or words ((i % 64) / 8) [] (omega (arith, size))),
-          ap (λ b. line_has (Some (cond b Bad (Kept (image.is_weak (place (i / 64))) (list_from word (8 * place (i / 64)) 8)))) (i % 64)) keeps_cell.0
-              ∙ ap (λ h. Some (byte_at (i % 64 % 8) (newest h)))
-              (get_or_from_slice_get (list_from word (8 * place (i / 64)) 8) ((i % 64) / 8) (value ∷ []) [] (slice_get-list_from word (8 * place (i / 64)) 8 ((i % 64) / 8) (omega arith))),
+          keeps_cell.2 (w % 8) (slice_index_or words (w % 8) []) (slice_get-get_or words (w % 8) [] (omega (arith, size))),
+          λ k lt. ap (λ b. shows b k) keeps_cell.0 ∙ byte_left k lt,
         )
 
-    by_presence : (b : Bool) → is_line_present pages (i / 64) ≡ b → MayShow choice (cell_of pages (i / 64)) (i % 64) (line_has (cell_of read (i / 64)) (i % 64))
+    by_presence : (b : Bool) → is_line_present pages (w / 8) ≡ b → MayShow image.unit choice (cell_of pages (w / 8)) (w % 8) (λ k. line_has (cell_of read (w / 8)) (8 * (w % 8) + k))
     by_presence true there =
-        subst (λ o. MayShow choice (cell_of pages (i / 64)) (i % 64) (line_has o (i % 64))) (sym (cell_of-read_pages place image (presence_of pages) (i / 64) (is_there (presence_of pages) (i / 64 / 64) there)))
-        (by_cell (cell_of pages (i / 64)) (lines (i / 64) there) (keeps (i / 64)))
+        subst (λ o. MayShow image.unit choice (cell_of pages (w / 8)) (w % 8) (λ k. line_has o (8 * (w % 8) + k))) (sym (cell_of-read_pages place image (presence_of pages) (w / 8) (is_there (presence_of pages) (w / 8 / 64) there)))
+        (by_cell (cell_of pages (w / 8)) (lines (w / 8) there) (keeps (w / 8)))
     by_presence false absent =
-        subst (λ o. MayShow choice o (i % 64) (line_has (cell_of read (i / 64)) (i % 64))) (sym (absent_line pages (i / 64) absent))
-        (ap (λ o. line_has o (i % 64)) (absent_line read (i / 64) (ap (λ bs. slice_index_or bs (i / 64 / 64) false) (presence_of-read_pages place image (presence_of pages)) ∙ absent)))
+        subst (λ o. MayShow image.unit choice o (w % 8) (λ k. line_has (cell_of read (w / 8)) (8 * (w % 8) + k))) (sym (absent_line pages (w / 8) absent))
+        (λ k lt. ap (λ o. line_has o (8 * (w % 8) + k)) (absent_line read (w / 8) (ap (λ bs. slice_index_or bs (w / 8 / 64) false) (presence_of-read_pages place image (presence_of pages)) ∙ absent)))
+
+-- byte k of word w of pages, by its line
+byte_in_line : (pages : List Page) (w k : ℕ) → k < 8 → line_has (cell_of pages ((8 * w + k) / 64)) ((8 * w + k) % 64) ≡ line_has (cell_of pages (w / 8)) (8 * (w % 8) + k)
+byte_in_line pages w k lt =
+    let line : (8 * w + k) / 64 ≡ w / 8 = omega arith in
+    let at : (8 * w + k) % 64 ≡ 8 * (w % 8) + k = omega arith in
+    ap (λ n. line_has (cell_of pages n) ((8 * w + k) % 64)) line ∙ ap (line_has (cell_of pages (w / 8))) at
+
+-- what a restart that was asked for this shows of pages that it read
+shows_back : (choice : Choice) (next later : Machine) (back : Returns next later) → back.choice ≡ choice → (place : ℕ → ℕ) (pages read : List Page) → HaveLines pages
+    → KeepsPages back.choice place back.image pages → read ≡ read_pages place back.image (presence_of pages) → (byte : ℕ → Option ℕ) → ((i : ℕ) → byte i ≡ line_has (cell_of read (i / 64)) (i % 64))
+    → (w : ℕ) → MayShow later.unit choice (cell_of pages (w / 8)) (w % 8) (λ k. byte (8 * w + k))
+shows_back choice next later back same place pages read lines keeps is byte shown w =
+    subst (λ u. MayShow u choice (cell_of pages (w / 8)) (w % 8) (λ k. byte (8 * w + k))) (sym back.image_unit)
+    (subst (λ c. MayShow back.image.unit c (cell_of pages (w / 8)) (w % 8) (λ k. byte (8 * w + k))) same
+    (shown_same back.image.unit back.choice (cell_of pages (w / 8)) (w % 8) (λ k. line_has (cell_of (read_pages place back.image (presence_of pages)) (w / 8)) (8 * (w % 8) + k)) (λ k. byte (8 * w + k))
+    (λ k lt. shown (8 * w + k) ∙ ap (λ p. line_has (cell_of p ((8 * w + k) / 64)) ((8 * w + k) % 64)) is ∙ byte_in_line (read_pages place back.image (presence_of pages)) w k lt)
+    (shows_read back.choice place back.image pages w lines keeps)))
 
 shows_files : (choice : Choice) (next later : Machine) (back : Returns next later) → back.choice ≡ choice → AllHaveLines next.files → ShowsFiles choice back.may.files_left later
-shows_files choice next later back same lines name i =
+shows_files choice next later back same lines name =
     let left : List File = back.may.files_left in
     let read = named-read back.choice next.geometry back.image name left back.may.files in
-    let whole = lines-named name left (lines-files_left next.mappings next.interrupted next.files left lines back.may.may_files) in
-    let shown : byte_at_place later (of_file name i) ≡ line_has (cell_of (read_pages read.place back.image (presence_of (pages_named name left))) (i / 64)) (i % 64) =
-    ap (λ fs. line_has (cell_of (pages_named name fs) (i / 64)) (i % 64)) back.files ∙ ap (λ p. line_has (cell_of p (i / 64)) (i % 64)) read.is in
-    subst (λ c. MayShow c (cell_of (pages_named name left) (i / 64)) (i % 64) (byte_at_place later (of_file name i))) same
-    (subst (MayShow back.choice (cell_of (pages_named name left) (i / 64)) (i % 64)) (sym shown) (shows_read back.choice read.place back.image (pages_named name left) i whole read.keeps))
+    shows_back choice next later back same read.place (pages_named name left) (pages_named name later.files)
+    (lines-named name left (lines-files_left next.mappings next.interrupted next.files left lines back.may.may_files)) read.keeps
+    (ap (pages_named name) back.files ∙ read.is) (λ i. byte_at_place later (of_file name i)) (λ i. refl)
 
 shows_volume : (choice : Choice) (next later : Machine) (back : Returns next later) → back.choice ≡ choice → HaveLines next.volume → ShowsVolume choice back.may.left later
-shows_volume choice next later back same lines i =
-    let left : List Page = back.may.left in
-    let place : ℕ → ℕ = volume_line next.geometry in
-    let shown : byte_at_place later (of_volume i) ≡ line_has (cell_of (read_pages place back.image (presence_of left)) (i / 64)) (i % 64) =
-    ap (λ p. line_has (cell_of p (i / 64)) (i % 64)) (back.volume ∙ ap (read_pages place back.image) (sym back.may.there)) in
-    subst (λ c. MayShow c (cell_of left (i / 64)) (i % 64) (byte_at_place later (of_volume i))) same
-    (subst (MayShow back.choice (cell_of left (i / 64)) (i % 64)) (sym shown)
-    (shows_read back.choice place back.image left i (lines-left next.geometry next.interrupted next.volume left lines back.may.may) back.may.volume))
+shows_volume choice next later back same lines =
+    shows_back choice next later back same (volume_line next.geometry) back.may.left later.volume
+    (lines-left next.geometry next.interrupted next.volume back.may.left lines back.may.may) back.may.volume
+    (back.volume ∙ ap (read_pages (volume_line next.geometry) back.image) (sym back.may.there)) (λ i. byte_at_place later (of_volume i)) (λ i. refl)
 
 pub restarted : (write : WholeWrite) (h next later : Machine) (choice : Choice) (said : Transcript) → BreaksOffFor h (command write) next → Hears next (Asked (Restart choice)) said later
     → AreMounted said.answers ⊎ IsStopped said.answers → ShowsEither choice write h later

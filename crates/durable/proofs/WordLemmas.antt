@@ -3,9 +3,10 @@ use Rattle.nvm_model.specs.Numbered.{is_among}
 use Rattle.std.proofs.Common.{◌≡◌, inl, inr, ℕ, ◌+◌, ◌*◌, ◌-◌, ◌<◌, Bool, true, false, cond, Option, Some, List, [], ◌∷◌, ◌++◌, length, get_or, refl, sym, ap, ◌∙◌}
 use Rattle.std.specs.Int.{byte_at}
 use Rattle.line_device.specs.Word.{byte_over, reaches, word_over}
-use Rattle.line_device.specs.History.{IsIn, latest, newest}
+use Rattle.line_device.specs.History.{IsIn, MayKeep, latest, newest}
 use Rattle.line_device.specs.Medium.{word_stored}
 use Rattle.line_device.proofs.HistoryLemmas.{is_in-latest, is_in-one, is_in-push, newest-latest, newest-push}
+use Rattle.line_device.proofs.TornLemmas.{may_keep-byte}
 use Rattle.nvm_model.proofs.PutLemmas.{byte_at-word_stored}
 
 byte_over-spared : (at i old : ℕ) (bytes : List ℕ) → is_among at (length bytes) i ≡ false → byte_over at bytes i old ≡ old
@@ -31,11 +32,15 @@ module _ (cut : Bool) where
     last = ap (λ n. Some (byte_at k n)) (newest-latest history) ∙ keeps.last;
   }
 
-  pub word_keeps-one : (history : List ℕ) (k value : ℕ) (v : Option ℕ) → WordKeeps history k v → cut ≡ true → IsIn value history → WordKeeps (value ∷ []) k v
-  word_keeps-one history k value v keeps cuts was = record {
-    each = λ same u at. ap (λ n. Some (byte_at k n)) (is_in-one u value at) ∙ keeps.each cuts value was;
-    last = keeps.each cuts value was;
+  pub word_keeps-one : (unit : ℕ) (history : List ℕ) (k value : ℕ) (v : Option ℕ) → WordKeeps history k v → cut ≡ true → MayKeep unit value history → WordKeeps (value ∷ []) k v
+  word_keeps-one unit history k value v keeps cuts was = record {
+    each = λ same u at. ap (λ n. Some (byte_at k n)) (is_in-one u value at) ∙ kept;
+    last = kept;
   }
+    where
+      -- the byte that is kept is that of a value
+      kept : Some (byte_at k value) ≡ v
+      kept = let one = may_keep-byte unit value history k was in ap (λ n. Some n) one.2 ∙ keeps.each cuts one.0 one.1
 
   -- once bytes are stored elsewhere
   pub word_keeps-stored : (at p k : ℕ) (bytes history : List ℕ) (v : Option ℕ) → ((j : ℕ) → get_or bytes j 0 < 256) → k < 8

@@ -1,5 +1,5 @@
 -- What storage has once a command that is done as a whole was stopped, and the storage is mounted.
-use Rattle.std.specs.Prelude.{◌≡◌, ◌⊎◌, ◌/◌, ◌%◌, ℕ, List, [], ◌∷◌, Option, Some, None, length, slice_index_or}
+use Rattle.std.specs.Prelude.{◌≡◌, ◌⊎◌, ◌+◌, ◌*◌, ◌/◌, ◌%◌, ◌<◌, ℕ, List, [], ◌∷◌, Option, Some, None, length, slice_index_or}
 use Rattle.std.specs.Int.{byte_at}
 use Rattle.line_device.specs.declared.line.Choice.{Choice}
 use Rattle.nvm_base.specs.declared.units.Span.{Span}
@@ -71,18 +71,21 @@ written (scars ranges) held = record held { blocks = change ranges Scarred held.
 written (discards_volume page count) held = record held { volume = discard page count held.volume }
 written (clears_volume offset) held = record held { volume = change_line clear_cell (offset / 64) held.volume }
 
--- what a restart may show of byte i of a line: a value that its word had since it was last durable, the last where that was asked for
-abbrev pub MayShow : Choice → Option Cell → ℕ → Option ℕ → Type 0
-MayShow choice None i byte = byte ≡ Some 0
-MayShow choice (Some Bad) i byte = byte ≡ None
-MayShow choice (Some (Kept weak words)) i byte = (value : ℕ) × MaySurvive choice (slice_index_or words (i / 8) []) value × (byte ≡ Some (byte_at (i % 8) value))
+-- what a restart may show of word w of a line, by its eight bytes: one of the values that the word had since it was last durable, or where
+-- bytes are kept, of each byte that of one of them; the last one where that was asked for
+abbrev pub MayShow : ℕ → Choice → Option Cell → ℕ → (ℕ → Option ℕ) → Type 0
+MayShow unit choice None w byte = (k : ℕ) → k < 8 → byte k ≡ Some 0
+MayShow unit choice (Some Bad) w byte = (k : ℕ) → k < 8 → byte k ≡ None
+MayShow unit choice (Some (Kept weak words)) w byte =
+    (value : ℕ) × MaySurvive unit choice (slice_index_or words w []) value × ((k : ℕ) → k < 8 → byte k ≡ Some (byte_at k value))
 
--- so of each byte of the volume, and of all files
+-- so of each word of the volume, and of all files
 abbrev pub ShowsVolume : Choice → List Page → Machine → Type 0
-ShowsVolume choice pages later = (i : ℕ) → MayShow choice (cell_of pages (i / 64)) (i % 64) (byte_at_place later (of_volume i))
+ShowsVolume choice pages later = (w : ℕ) → MayShow later.unit choice (cell_of pages (w / 8)) (w % 8) (λ k. byte_at_place later (of_volume (8 * w + k)))
 
 abbrev pub ShowsFiles : Choice → List File → Machine → Type 0
-ShowsFiles choice files later = (name : List ℕ) (i : ℕ) → MayShow choice (cell_of (pages_named name files) (i / 64)) (i % 64) (byte_at_place later (of_file name i))
+ShowsFiles choice files later =
+    (name : List ℕ) (w : ℕ) → MayShow later.unit choice (cell_of (pages_named name files) (w / 8)) (w % 8) (λ k. byte_at_place later (of_file name (8 * w + k)))
 
 -- storage has this: exactly, and as a restart may show it, which keeps blocks exactly
 pub record Has (held : Held) (later : Machine) : Type 0 where

@@ -187,9 +187,9 @@ pub fn what_files_there_are_stays()
 {}
 
 /// An atomic write of blocks or of a file, a discard of blocks or pages, a scar or a clear that was stopped is done as a whole or not at
-/// all. The next recovery leaves the storage as before, or as it was to be, where it is done. So does the next restart, where each byte
-/// of a page shows a value that its word had since it was last durable, the last one where that was asked for: what was written shows
-/// as it was written, and what was discarded as zeros.
+/// all. The next recovery leaves the storage as before, or as it was to be, where it is done. So does the next restart, where each word
+/// of a page shows a value that it had since it was last durable, or where bytes are kept, each byte that of one; the last one where
+/// that was asked for: what was written shows as it was written, and what was discarded as zeros.
 pub fn a_stopped_write_is_whole_or_not()
     ensures recovered { (write : WholeWrite) (h next later : Machine) (said : Transcript) → BreaksOffFor h (command write) next
         → Hears next (Asked Recover) said later → AreMounted said.answers → HasEither write h later }

@@ -24,7 +24,7 @@ use Rattle.file_journal.specs.Files.{UnitFile, files_of}
 use Rattle.file_journal.specs.Reading.{tables_read, wrong_file_place}
 use Rattle.file_journal.specs.Standing.{file_read, files_read, line_of_file, pages_there}
 use Rattle.image_file.specs.Devices.{image_of, medium_of, told_values, told_word}
-use Rattle.image_file.specs.Text.{AreFileBytes, IsImageLine, IsOfBytes}
+use Rattle.image_file.specs.Text.{AreFileBytes, IsImageLine, IsOfBytes, Snapshot}
 use Rattle.recovery.specs.Findings.{first_finding, geometry_told}
 use Rattle.recovery.proofs.FindingLemmas.{nothing_found}
 use Rattle.outcome_lists.specs.MachineModel.Lines.{bad_metadata}
@@ -42,7 +42,7 @@ use Rattle.program_base.proofs.OpenLemmas.{flushed_of_image, good_image}
 
 -- what a mount finds nothing wrong with is ready, and is kept
 abbrev pub Mounted : Type 0
-Mounted = (geo : Geometry) (image : Image) → IsValid geo → image.count ≡ total_lines geo → bad_metadata geo image.is_bad ≡ [] → wrong_file_place geo image.word ≡ None
+Mounted = (geo : Geometry) (image : Image) → IsValid geo → image.count ≡ total_lines geo → image.unit ≡ 8 → bad_metadata geo image.is_bad ≡ [] → wrong_file_place geo image.word ≡ None
     → IsReady (reading geo image) × IsKept (reading geo image)
 
 -- each word of an image is as it was last stored
@@ -52,15 +52,15 @@ last_told (Some (Healthy bytes)) w = refl
 last_told (Some (Weak bytes)) w = refl
 last_told (Some Bad) w = refl
 
-last_is : (lines : List LineState) → last_image (medium_of lines) ≡ (image_of lines).word
-last_is lines = λ i p. last_told (slice_get lines (p / 8)) (p % 8) i
+last_is : (unit : ℕ) (lines : List LineState) → last_image (medium_of lines) ≡ (image_of unit lines).word
+last_is unit lines = λ i p. last_told (slice_get lines (p / 8)) (p % 8) i
 
-pub kept_opened : Mounted → (lines : List LineState) → first_finding (medium_of lines) ≡ None → IsReady (opened lines) × IsKept (opened lines)
-kept_opened mounted lines right =
-    let m = medium_of lines in
+pub kept_opened : Mounted → (image : Snapshot) → image.unit ≡ 8 → first_finding (medium_of image.lines) ≡ None → IsReady (opened image) × IsKept (opened image)
+kept_opened mounted image words right =
+    let m = medium_of image.lines in
     let geo = geometry_told m in
-    let layout = layout_found m (flushed_of_image lines) right in
-    mounted geo (image_of lines) layout.valid layout.lines (good_image lines right) (subst (λ word. wrong_file_place geo word ≡ None) (last_is lines) (nothing_found m right).3)
+    let layout = layout_found m (flushed_of_image image.lines) right in
+    mounted geo (image_of image.unit image.lines) layout.valid layout.lines words (good_image image.lines right) (subst (λ word. wrong_file_place geo word ≡ None) (last_is image.unit image.lines) (nothing_found m right).3)
 
 -- a line has 64 bytes, if any
 abbrev IsOfLine : Option LineState → Type 0
@@ -103,55 +103,58 @@ words_at f g a b (suc count) each =
     ap f a1 ∙ each (suc k) (omega arith) ∙ ap g b1) in
     (λ i. first i ∷ rest i)
 
-line_words : (lines : List LineState) (m : ℕ) → list_from (λ p. (image_of lines).word p ∷ []) (8 * m) 8 ≡ list_from (λ w. told_word (slice_get lines m) w ∷ []) 0 8
-line_words lines m =
-    words_at (λ p. (image_of lines).word p ∷ []) (λ w. told_word (slice_get lines m) w ∷ []) (8 * m) 0 8
+line_words : (unit : ℕ) (lines : List LineState) (m : ℕ) → list_from (λ p. (image_of unit lines).word p ∷ []) (8 * m) 8 ≡ list_from (λ w. told_word (slice_get lines m) w ∷ []) 0 8
+line_words unit lines m =
+    words_at (λ p. (image_of unit lines).word p ∷ []) (λ w. told_word (slice_get lines m) w ∷ []) (8 * m) 0 8
     (λ k below.
     let line : (8 * m + k) / 8 ≡ m = omega (arith, below) in
     let place : (8 * m + k) % 8 ≡ 0 + k = omega (arith, below) in
     (λ i. told_word (slice_get lines (line i)) (place i) ∷ []))
 
 -- of each line of pages that are read, each word has one value
-of_cell : (lines : List LineState) (m : ℕ) (weak : Bool) (words : List (List ℕ)) → IsOfLine (slice_get lines m) → read_cell (image_of lines) m ≡ Kept weak words → AreOfBytes words
-of_cell lines m weak words of is = by_mark ((image_of lines).is_bad m) is
+of_cell : (unit : ℕ) (lines : List LineState) (m : ℕ) (weak : Bool) (words : List (List ℕ)) → IsOfLine (slice_get lines m) → read_cell (image_of unit lines) m ≡ Kept weak words → AreOfBytes words
+of_cell unit lines m weak words of is = by_mark ((image_of unit lines).is_bad m) is
   where
-    by_mark : (b : Bool) → (if b then BadCell else Kept ((image_of lines).is_weak m) (list_from (λ p. (image_of lines).word p ∷ []) (8 * m) 8)) ≡ Kept weak words → AreOfBytes words
+    by_mark : (b : Bool) → (if b then BadCell else Kept ((image_of unit lines).is_weak m) (list_from (λ p. (image_of unit lines).word p ∷ []) (8 * m) 8)) ≡ Kept weak words → AreOfBytes words
     by_mark true same = absurd (cc same)
     by_mark false same =
-        let are : list_from (λ p. (image_of lines).word p ∷ []) (8 * m) 8 ≡ words = cc same in
-        subst AreOfBytes (sym (line_words lines m) ∙ are) (words_of (slice_get lines m) of)
+        let are : list_from (λ p. (image_of unit lines).word p ∷ []) (8 * m) 8 ≡ words = cc same in
+        subst AreOfBytes (sym (line_words unit lines m) ∙ are) (words_of (slice_get lines m) of)
 
 same_cell : (a b : Cell) → Some a ≡ Some b → a ≡ b
 same_cell a b is = cc is
 
-durable_read : (place : ℕ → ℕ) (there : List Bool) (lines : List LineState) → AllByRecursion IsImageLine lines → AllByRecursion IsOfBytes lines
-    → AreDurable (read_pages place (image_of lines) there)
-durable_read place there lines whole bytes n weak words is =
-    let cell = cell_of-read_pages place (image_of lines) there n (read_pages-there place (image_of lines) there n (Kept weak words) is) in
-    of_cell lines (place n) weak words (is_of_line lines (place n) whole bytes) (same_cell (read_cell (image_of lines) (place n)) (Kept weak words) (sym cell ∙ is))
+durable_read : (unit : ℕ) (place : ℕ → ℕ) (there : List Bool) (lines : List LineState) → AllByRecursion IsImageLine lines → AllByRecursion IsOfBytes lines
+    → AreDurable (read_pages place (image_of unit lines) there)
+durable_read unit place there lines whole bytes n weak words is =
+    let cell = cell_of-read_pages place (image_of unit lines) there n (read_pages-there place (image_of unit lines) there n (Kept weak words) is) in
+    of_cell unit lines (place n) weak words (is_of_line lines (place n) whole bytes) (same_cell (read_cell (image_of unit lines) (place n)) (Kept weak words) (sym cell ∙ is))
 
-files_durable : (geo : Geometry) (lines : List LineState) → AllByRecursion IsImageLine lines → AllByRecursion IsOfBytes lines → (on : List UnitFile)
-    → HaveDurable (map (file_read geo (image_of lines)) on)
-files_durable geo lines whole bytes [] = tt
-files_durable geo lines whole bytes (file ∷ on) = (durable_read (line_of_file geo file) (pages_there file) lines whole bytes, files_durable geo lines whole bytes on)
+files_durable : (unit : ℕ) (geo : Geometry) (lines : List LineState) → AllByRecursion IsImageLine lines → AllByRecursion IsOfBytes lines → (on : List UnitFile)
+    → HaveDurable (map (file_read geo (image_of unit lines)) on)
+files_durable unit geo lines whole bytes [] = tt
+files_durable unit geo lines whole bytes (file ∷ on) = (durable_read unit (line_of_file geo file) (pages_there file) lines whole bytes, files_durable unit geo lines whole bytes on)
 
-all_durable : (geo : Geometry) (lines : List LineState) → AllByRecursion IsImageLine lines → AllByRecursion IsOfBytes lines → HaveDurable (files_read geo (image_of lines))
+all_durable : (unit : ℕ) (geo : Geometry) (lines : List LineState) → AllByRecursion IsImageLine lines → AllByRecursion IsOfBytes lines → HaveDurable (files_read geo (image_of unit lines))
 unfolding files_read
-all_durable geo lines whole bytes = files_durable geo lines whole bytes (files_of (tables_read geo (image_of lines).word))
+all_durable unit geo lines whole bytes = files_durable unit geo lines whole bytes (files_of (tables_read geo (image_of unit lines).word))
 
-pub begins_opened : Mounted → (lines : List LineState) → first_finding (medium_of lines) ≡ None → AllByRecursion IsImageLine lines → AllByRecursion IsOfBytes lines
-    → Begins (opened lines)
-begins_opened mounted lines right whole bytes =
+pub begins_opened : Mounted → (image : Snapshot) → image.unit ≡ 8 → first_finding (medium_of image.lines) ≡ None → AllByRecursion IsImageLine image.lines → AllByRecursion IsOfBytes image.lines
+    → Begins (opened image)
+begins_opened mounted image words right whole bytes =
+    let lines = image.lines in
     let geo = geometry_told (medium_of lines) in
-    let image = image_of lines in
-    let there = presence_read geo image.word in
+    let shown = image_of image.unit lines in
+    let there = presence_read geo shown.word in
+    let kept = kept_opened mounted image words right in
+    let read = read_whole geo shown (good_image lines right) in
     record {
-      ready = (kept_opened mounted lines right).0;
-      durable = subst AreDurable (sym (ap (λ (h : Machine). h.volume) (read_whole geo image (good_image lines right)))) (durable_read (volume_line geo) there lines whole bytes);
-      files = subst HaveDurable (sym (ap (λ (h : Machine). h.files) (read_whole geo image (good_image lines right)))) (all_durable geo lines whole bytes);
-      in_order = (kept_opened mounted lines right).1.listed.in_order;
-      mappings = ap (λ (h : Machine). h.mappings) (read_whole geo image (good_image lines right));
-      handles = ap (λ (h : Machine). h.next_handle) (read_whole geo image (good_image lines right));
+      ready = kept.0;
+      durable = subst AreDurable (sym (ap (λ (h : Machine). h.volume) read)) (durable_read image.unit (volume_line geo) there lines whole bytes);
+      files = subst HaveDurable (sym (ap (λ (h : Machine). h.files) read)) (all_durable image.unit geo lines whole bytes);
+      in_order = kept.1.listed.in_order;
+      mappings = ap (λ (h : Machine). h.mappings) read;
+      handles = ap (λ (h : Machine). h.next_handle) read;
     }
 
 -- where nothing is armed, a run begins in just this state
@@ -159,22 +162,22 @@ not_armed : (b : Bool) (armed : Bool) → (IsTrue b → IsTrue armed) → armed 
 not_armed true armed was none = sym (was refl) ∙ none
 not_armed false armed was none = refl
 
-pub begin_is : (lines : List LineState) (p : Panel) (h : Machine) → first_finding (medium_of lines) ≡ None → base.Begins (opened lines) p h → p.cut_armed ≡ false → p.fail_armed ≡ false
-    → h ≡ opened lines
-begin_is lines p h right begins no_cut no_failure =
-    let whole = read_whole (geometry_told (medium_of lines)) (image_of lines) (good_image lines right) in
+pub begin_is : (image : Snapshot) (p : Panel) (h : Machine) → first_finding (medium_of image.lines) ≡ None → base.Begins (opened image) p h → p.cut_armed ≡ false → p.fail_armed ≡ false
+    → h ≡ opened image
+begin_is image p h right begins no_cut no_failure =
+    let whole = read_whole (geometry_told (medium_of image.lines)) (image_of image.unit image.lines) (good_image image.lines right) in
     begins.state
-    ∙ (λ i. record (opened lines) { cut_armed = not_armed h.cut_armed p.cut_armed begins.cut no_cut i; fail_armed = not_armed h.fail_armed p.fail_armed begins.fail no_failure i })
+    ∙ (λ i. record (opened image) { cut_armed = not_armed h.cut_armed p.cut_armed begins.cut no_cut i; fail_armed = not_armed h.fail_armed p.fail_armed begins.fail no_failure i })
     ∙ ap (λ (k : Machine). record k { cut_armed = false; fail_armed = false }) whole
     ∙ sym whole
 
 -- so a host that was mounted on it stands for that state
-pub at_start : (lines : List LineState) (host : HostState) (old new : Device) → Mounts lines host old new → old.panel.cut_armed ≡ false → old.panel.fail_armed ≡ false → Stands host new (opened lines)
-at_start lines host old new mounted no_cut no_failure = subst (Stands host new) (begin_is lines old.panel mounted.begin mounted.right mounted.begins no_cut no_failure) mounted.stands
+pub at_start : (image : Snapshot) (host : HostState) (old new : Device) → Mounts image host old new → old.panel.cut_armed ≡ false → old.panel.fail_armed ≡ false → Stands host new (opened image)
+at_start image host old new mounted no_cut no_failure = subst (Stands host new) (begin_is image old.panel mounted.begin mounted.right mounted.begins no_cut no_failure) mounted.stands
 
 -- its sizes are those of the image, and valid
-pub mounted_sizes : (lines : List LineState) (host : HostState) (old new : Device) → Mounts lines host old new → host.geometry ≡ (opened lines).geometry
-mounted_sizes lines host old new mounted = mounted.stands.geometry ∙ ap (λ (h : Machine). h.geometry) mounted.begins.state
+pub mounted_sizes : (image : Snapshot) (host : HostState) (old new : Device) → Mounts image host old new → host.geometry ≡ (opened image).geometry
+mounted_sizes image host old new mounted = mounted.stands.geometry ∙ ap (λ (h : Machine). h.geometry) mounted.begins.state
 
-pub mounted_valid : (lines : List LineState) (host : HostState) (old new : Device) → Mounts lines host old new → IsValid host.geometry
-mounted_valid lines host old new mounted = mounted.serves.layout.valid
+pub mounted_valid : (image : Snapshot) (host : HostState) (old new : Device) → Mounts image host old new → IsValid host.geometry
+mounted_valid image host old new mounted = mounted.serves.layout.valid

@@ -8,7 +8,6 @@ use Rattle.host_io.specs.declared.sink.WriteFault.{WriteFault}
 use Rattle.host_io.specs.declared.sink.WriteFault.TheVariants as write
 use Rattle.image_file.specs.Devices.{medium_of}
 use Rattle.line_device.specs.Panel.{Panel}
-use Rattle.line_device.specs.declared.line.LineState.{LineState}
 use Rattle.recovery.specs.Findings.{first_finding}
 use Rattle.word_tables.specs.declared.geometry.Geometry.{Geometry}
 use Rattle.outcome_lists.specs.MachineModel.Machine.{Machine}
@@ -28,6 +27,8 @@ use Rattle.outcome_lists.specs.Explorer.Stopping.{NoneFell}
 use Rattle.outcome_lists.specs.CutPlaces.Places.{Stop as Place, found_stop}
 use Rattle.outcome_lists.specs.Explorer.Tabulating.{looked}
 use Rattle.exploration.proofs.AnswerableLemmas.{all_seen}
+use Rattle.image_file.specs.Text.{Snapshot}
+use Rattle.image_file.specs.declared.Units.TheVariants.{Words}
 use Rattle.program_base.specs.Ending.{status}
 use Rattle.program_base.specs.Opening.{FailsToOpen, IsHeld, opened}
 use Rattle.program_base.specs.World.{World}
@@ -184,40 +185,40 @@ abbrev pub ended : Bool → Result Bool Stop → Result Bool Stop
 ended refused (Ok missed) = Ok (refused || missed)
 ended refused (Err stop) = Err stop
 
-module _ (name : List ℕ) (lines : List LineState) (old new : World) (there : IsHeld name old.held lines) (right : first_finding (medium_of lines) ≡ None) (images : LeavesImages old new) where
+module _ (name : List ℕ) (image : Snapshot) (old new : World) (there : IsHeld Words name old.held image) (right : first_finding (medium_of image.lines) ≡ None) (images : LeavesImages old new) where
   -- the script was not read to its end
   pub halts_unread : (ending : Ending) → (taken : List ℕ) × Consumes old.left new.left taken × IsUnread ending old.left old.reads new.reads → new.written ≡ old.written → Halts name (stops.Early ending) old new
   halts_unread ending unread none = record {
-    lines = lines;
+    image = image;
     there = there;
     right = right;
     script = unread.0;
     read = unread.1;
-    cause = caused_unread (opened lines).geometry ending unread.0 old new unread.2;
+    cause = caused_unread (opened image).geometry ending unread.0 old new unread.2;
     wrote = inl none;
     images = images;
   }
 
   -- a line of it is not taken
-  pub halts_untaken : (fault : ScriptFault) (text : List ℕ) → Consumes old.left new.left text → IsAtEnd new.left → ReadsScript (script_of (opened lines).geometry text) (Err fault) → new.written ≡ old.written
+  pub halts_untaken : (fault : ScriptFault) (text : List ℕ) → Consumes old.left new.left text → IsAtEnd new.left → ReadsScript (script_of (opened image).geometry text) (Err fault) → new.written ≡ old.written
       → Halts name (of_script fault) old new
   halts_untaken fault text read ended is none = record {
-    lines = lines;
+    image = image;
     there = there;
     right = right;
     script = text;
     read = read;
-    cause = caused_untaken (opened lines).geometry fault text old new ended is;
+    cause = caused_untaken (opened image).geometry fault text old new ended is;
     wrote = inl none;
     images = images;
   }
 
-  module _ (text : List ℕ) (e : Exploration) (taken : IsTaken (opened lines).geometry text e old new) (theorems : AreTheorems (begun (opened lines) e) (map asks_for e.program)) (started : Panel) (fell : NoneFell old.device.panel started)
-      (refused : Bool) (are : refused ≡ not (length (refused_text (opened lines) e) == 0)) where
-    outcome_taken : (result : Result Bool Stop) → AnswersAll (looked_at (opened lines) e) (asked_first (opened lines) e) (found (opened lines) e) e.questions result old.written new.written old.writes new.writes started new.device.panel
+  module _ (text : List ℕ) (e : Exploration) (taken : IsTaken (opened image).geometry text e old new) (theorems : AreTheorems (begun (opened image) e) (map asks_for e.program)) (started : Panel) (fell : NoneFell old.device.panel started)
+      (refused : Bool) (are : refused ≡ not (length (refused_text (opened image) e) == 0)) where
+    outcome_taken : (result : Result Bool Stop) → AnswersAll (looked_at (opened image) e) (asked_first (opened image) e) (found (opened image) e) e.questions result old.written new.written old.writes new.writes started new.device.panel
         → Outcome name (ended refused result) old new
     outcome_taken (Ok missed) told = record {
-      lines = lines;
+      image = image;
       there = there;
       right = right;
       script = text;
@@ -231,37 +232,37 @@ module _ (name : List ℕ) (lines : List LineState) (old new : World) (there : I
       images = images;
     }
     outcome_taken (Err stop) told = inr (record {
-      lines = lines;
+      image = image;
       there = there;
       right = right;
       script = text;
       read = taken.read;
-      cause = caused_unanswered (opened lines).geometry stop text old new (unanswered_later stop old.writes new.writes old.device.panel started new.device.panel fell told.0);
+      cause = caused_unanswered (opened image).geometry stop text old new (unanswered_later stop old.writes new.writes old.device.panel started new.device.panel fell told.0);
       wrote = inr (e, taken, told.1, told.2, told.3);
       images = images;
     })
 
   -- the script was read and taken
   pub outcome_read : (text : List ℕ) (x : Read) (result : Result Bool Stop) (refused : Bool) (started : Panel) → NoneFell old.device.panel started → Consumes old.left new.left text → IsAtEnd new.left → length text < most
-      → ReadsScript (script_of (opened lines).geometry text) (Ok x) → AreCommands x.first.items → AreCommands x.program.items
-      → ((e : Exploration) → script_of (opened lines).geometry text ≡ Taken e → IsProgram (map asks_for e.first) → IsProgram (map asks_for e.program) → AreTheorems (begun (opened lines) e) (map asks_for e.program))
-      → refused ≡ not (length (read_refused (opened lines) x) == 0)
-      → ((asked : List Asked) → AskOf asked x.questions.items → AllAskOf (opened lines).geometry x.reads.items asked
-      → AnswersAll (looked (opened lines).geometry x.reads.items) (read_refused (opened lines) x ++ read_shown (opened lines) x) (read_found (opened lines) x) asked result old.written new.written old.writes new.writes started new.device.panel)
+      → ReadsScript (script_of (opened image).geometry text) (Ok x) → AreCommands x.first.items → AreCommands x.program.items
+      → ((e : Exploration) → script_of (opened image).geometry text ≡ Taken e → IsProgram (map asks_for e.first) → IsProgram (map asks_for e.program) → AreTheorems (begun (opened image) e) (map asks_for e.program))
+      → refused ≡ not (length (read_refused (opened image) x) == 0)
+      → ((asked : List Asked) → AskOf asked x.questions.items → AllAskOf (opened image).geometry x.reads.items asked
+      → AnswersAll (looked (opened image).geometry x.reads.items) (read_refused (opened image) x ++ read_shown (opened image) x) (read_found (opened image) x) asked result old.written new.written old.writes new.writes started new.device.panel)
       → Outcome name (ended refused result) old new
-  outcome_read text x result refused started fell read at_end short is first program theorems are tells = by_script (script_of (opened lines).geometry text) refl is
+  outcome_read text x result refused started fell read at_end short is first program theorems are tells = by_script (script_of (opened image).geometry text) refl is
     where
-      by_script : (s : Script) → script_of (opened lines).geometry text ≡ s → Holds s x → Outcome name (ended refused result) old new
+      by_script : (s : Script) → script_of (opened image).geometry text ≡ s → Holds s x → Outcome name (ended refused result) old new
       by_script (Taken e) told holds =
           outcome_taken text e (record { read = read; ended = at_end; short = short; is = told })
-          (theorems e told (subst IsProgram (first_is (opened lines) x e holds) first.program) (subst IsProgram (program_is (opened lines) x e holds) program.program))
-          started fell refused (are ∙ ap (λ t. not (length t == 0)) (same_refused (opened lines) x e holds)) result
-          (subst (λ all. AnswersAll all (asked_first (opened lines) e) (found (opened lines) e) e.questions result old.written new.written old.writes new.writes started new.device.panel) (same_looked (opened lines) x e holds)
-          (subst (λ front. AnswersAll (looked (opened lines).geometry x.reads.items) front (found (opened lines) e) e.questions result old.written new.written old.writes new.writes started new.device.panel) (same_first (opened lines) x e holds)
-          (subst (λ (tell : List Seen → Option Place). AnswersAll (looked (opened lines).geometry x.reads.items) (read_refused (opened lines) x ++ read_shown (opened lines) x) tell e.questions result old.written new.written old.writes new.writes started new.device.panel)
-          (same_found (opened lines) x e holds)
+          (theorems e told (subst IsProgram (first_is (opened image) x e holds) first.program) (subst IsProgram (program_is (opened image) x e holds) program.program))
+          started fell refused (are ∙ ap (λ t. not (length t == 0)) (same_refused (opened image) x e holds)) result
+          (subst (λ all. AnswersAll all (asked_first (opened image) e) (found (opened image) e) e.questions result old.written new.written old.writes new.writes started new.device.panel) (same_looked (opened image) x e holds)
+          (subst (λ front. AnswersAll (looked (opened image).geometry x.reads.items) front (found (opened image) e) e.questions result old.written new.written old.writes new.writes started new.device.panel) (same_first (opened image) x e holds)
+          (subst (λ (tell : List Seen → Option Place). AnswersAll (looked (opened image).geometry x.reads.items) (read_refused (opened image) x ++ read_shown (opened image) x) tell e.questions result old.written new.written old.writes new.writes started new.device.panel)
+          (same_found (opened image) x e holds)
           (tells e.questions holds.questions
-          (subst (λ rs. AllAskOf (opened lines).geometry rs e.questions) (sym (reads_same (opened lines) x e holds)) (all_ask (opened lines).geometry e.reads e.questions (all_seen (opened lines).geometry text e told)))))))
+          (subst (λ rs. AllAskOf (opened image).geometry rs e.questions) (sym (reads_same (opened image) x e holds)) (all_ask (opened image).geometry e.reads e.questions (all_seen (opened image).geometry text e told)))))))
       by_script (StopsAt n why) told holds = absurd holds
 
 -- words of which there is one name it
@@ -280,7 +281,7 @@ line_written text r old new counted counts wrote cause = record { outcome = r; w
     by_result (Err e) rose is = rose (cc is)
 
 -- a call with one word does not end as one with none
-unopened_usage : (name : List ℕ) (ending : Ending) (old new : World) → FailsToOpen name ending old new → status ending ≡ 2 → ⊥
+unopened_usage : (name : List ℕ) (ending : Ending) (old new : World) → FailsToOpen Words name ending old new → status ending ≡ 2 → ⊥
 unopened_usage name endings.Usage old new fails is = fails.cause
 unopened_usage name (endings.Image offset) old new fails is = cc is
 unopened_usage name (endings.Layout place) old new fails is = cc is
@@ -306,4 +307,4 @@ caused_usage geo (stops.Early endings.Device) text old new cause is = cc is
 
 pub no_usage : (name : List ℕ) (stop : Stop) (old new : World) → Fails name stop old new → stop_status stop ≡ 2 → ⊥
 no_usage name stop old new (inl (ending, same, fails)) is = unopened_usage name ending old new fails (sym (ap stop_status same) ∙ is)
-no_usage name stop old new (inr halts) is = caused_usage (opened halts.lines).geometry stop halts.script old new halts.cause is
+no_usage name stop old new (inr halts) is = caused_usage (opened halts.image).geometry stop halts.script old new halts.cause is

@@ -4,8 +4,8 @@ use Rattle.nvm_base.specs.Counts.{Rose}
 use Rattle.host_io.specs.declared.sink.WriteFault.{WriteFault}
 use Rattle.host_io.specs.declared.sink.WriteFault.TheVariants as write
 use Rattle.image_file.specs.Devices.{medium_of}
+use Rattle.image_file.specs.Text.{Snapshot}
 use Rattle.line_device.specs.Panel.{Panel, after_disarm}
-use Rattle.line_device.specs.declared.line.LineState.{LineState}
 use Rattle.outcome_lists.specs.MachineModel.Costs.{Opens}
 use Rattle.recovery.specs.Findings.{first_finding}
 use Rattle.outcome_lists.specs.Explorer.Stopping.{DeviceStopped, NoneFell}
@@ -47,17 +47,17 @@ unanswered_later (stops.Script n why) counted counts a b c fell cause = absurd c
 unanswered_later stops.Usage counted counts a b c fell cause = cause
 
 -- a right image that was not mounted, and an exploration that came to no end
-pub unmounted_unanswered : (lines : List LineState) (ending : Ending) (counted counts : ℕ) (old new : Panel) → first_finding (medium_of lines) ≡ None → StaysUnmounted lines ending old new
+pub unmounted_unanswered : (image : Snapshot) (ending : Ending) (counted counts : ℕ) (old new : Panel) → first_finding (medium_of image.lines) ≡ None → StaysUnmounted image ending old new
     → IsUnanswered (stops.Early ending) counted counts old new
-unmounted_unanswered lines endings.Memory counted counts old new right cause = tt
-unmounted_unanswered lines endings.Device counted counts old new right cause = cause
-unmounted_unanswered lines (endings.Layout place) counted counts old new right cause = cc (sym right ∙ cause)
-unmounted_unanswered lines (endings.Meta line) counted counts old new right cause = cc (sym right ∙ cause)
-unmounted_unanswered lines endings.Usage counted counts old new right cause = cause
-unmounted_unanswered lines (endings.Image offset) counted counts old new right cause = cause
-unmounted_unanswered lines endings.Read counted counts old new right cause = absurd cause
-unmounted_unanswered lines endings.Write counted counts old new right cause = absurd cause
-unmounted_unanswered lines endings.Script counted counts old new right cause = absurd cause
+unmounted_unanswered image endings.Memory counted counts old new right cause = tt
+unmounted_unanswered image endings.Device counted counts old new right cause = cause
+unmounted_unanswered image (endings.Layout place) counted counts old new right cause = cc (sym right ∙ cause)
+unmounted_unanswered image (endings.Meta line) counted counts old new right cause = cc (sym right ∙ cause)
+unmounted_unanswered image endings.Usage counted counts old new right cause = cause
+unmounted_unanswered image (endings.Image offset) counted counts old new right cause = cause
+unmounted_unanswered image endings.Read counted counts old new right cause = absurd cause
+unmounted_unanswered image endings.Write counted counts old new right cause = absurd cause
+unmounted_unanswered image endings.Script counted counts old new right cause = absurd cause
 
 pub explore_unanswered : (fault : ExploreFault) (counted counts : ℕ) (old new : Panel) → (fault ≡ explore.Device → DeviceStopped old new) → IsUnanswered (of_explore fault) counted counts old new
 explore_unanswered explore.Device counted counts old new cause = inr (cause refl)

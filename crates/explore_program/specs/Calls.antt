@@ -6,9 +6,9 @@ use Rattle.nvm_base.specs.Counts.{Rose}
 use Rattle.nvm_base.specs.Stock.{Stock}
 use Rattle.host_io.specs.Images.{KeepsHeld}
 use Rattle.image_file.specs.Devices.{medium_of}
-use Rattle.image_file.specs.Text.{IsOfBytes, IsSnapshot}
+use Rattle.image_file.specs.Text.{IsOfBytes, IsSnapshot, Snapshot}
+use Rattle.image_file.specs.declared.Units.TheVariants.{Words}
 use Rattle.line_device.specs.Panel.{Panel}
-use Rattle.line_device.specs.declared.line.LineState.{LineState}
 use Rattle.outcome_lists.specs.MachineModel.Machine.{Machine}
 use Rattle.recovery.specs.Findings.{first_finding}
 use Rattle.word_tables.specs.declared.geometry.Geometry.{Geometry}
@@ -28,7 +28,7 @@ use Rattle.outcome_lists.specs.Explorer.Finding.{IsFound}
 use Rattle.outcome_lists.specs.Explorer.Tabulating.{LooksWithin, looked}
 use Rattle.outcome_lists.specs.Explorer.declared.found.Found.{Found}
 use Rattle.outcome_lists.specs.Witnesses.Telling.{told}
-use Rattle.program_base.specs.Opening.{CountsOpening, DeviceFailed, FailsToOpen, IsHeld, opened, snapshot}
+use Rattle.program_base.specs.Opening.{CountsOpening, DeviceFailed, FailsToOpen, IsHeld, opened}
 use Rattle.program_base.specs.World.{World}
 use Rattle.program_base.specs.Writing.{WritesFront, WritesLine}
 use Rattle.program_base.specs.declared.ending.Ending.{Ending}
@@ -98,11 +98,12 @@ pub record FirstAnswered (all : List Seen) (tell : List Seen → Option Stop) (a
   pub joined : first ++ later ≡ asked
   pub answered : AreAnswered all tell first text
 
--- lines of an image, with which nothing is wrong
-pub record AreMountable (lines : List LineState) : Type 0 where
-  pub image : IsSnapshot (snapshot lines)
-  pub bytes : AllByRecursion IsOfBytes lines
-  pub right : first_finding (medium_of lines) ≡ None
+-- an image that keeps words whole, with which nothing is wrong
+pub record AreMountable (image : Snapshot) : Type 0 where
+  pub right_form : IsSnapshot image
+  pub unit : image.unit ≡ 8
+  pub bytes : AllByRecursion IsOfBytes image.lines
+  pub right : first_finding (medium_of image.lines) ≡ None
 
 -- a script has fewer bytes than this
 abbrev pub most : ℕ
@@ -175,17 +176,17 @@ pub record LeavesImages (old new : World) : Type 0 where
 
 -- What comes first was written, and all questions of the script were answered, from the state that is read in the image.
 pub record Answers (name : List ℕ) (ended : ℕ) (old new : World) : Type 0 where
-  pub lines : List LineState
-  pub there : IsHeld name old.held lines
-  pub right : first_finding (medium_of lines) ≡ None
+  pub image : Snapshot
+  pub there : IsHeld Words name old.held image
+  pub right : first_finding (medium_of image.lines) ≡ None
   pub script : List ℕ
   pub exploration : Exploration
-  pub taken : IsTaken (opened lines).geometry script exploration old new
-  pub status : ended ≡ ended_by (opened lines) exploration
+  pub taken : IsTaken (opened image).geometry script exploration old new
+  pub status : ended ≡ ended_by (opened image) exploration
   pub text : List ℕ
-  pub answered : AreAnswered (looked_at (opened lines) exploration) (found (opened lines) exploration) exploration.questions text
-  pub wrote : Appends old.written new.written (asked_first (opened lines) exploration ++ text)
-  pub theorems : AreTheorems (begun (opened lines) exploration) (map asks_for exploration.program)
+  pub answered : AreAnswered (looked_at (opened image) exploration) (found (opened image) exploration) exploration.questions text
+  pub wrote : Appends old.written new.written (asked_first (opened image) exploration ++ text)
+  pub theorems : AreTheorems (begun (opened image) exploration) (map asks_for exploration.program)
   pub images : LeavesImages old new
 
 -- why not all of them were, once the image was mounted
@@ -205,20 +206,20 @@ IsCaused geo stops.Usage script old new = ⊥
 -- The image was mounted, but not all questions were answered: of the answers that were due the first ones were written, and nothing
 -- where the script was not read to its end, or not taken.
 pub record Halts (name : List ℕ) (stop : Stopped) (old new : World) : Type 0 where
-  pub lines : List LineState
-  pub there : IsHeld name old.held lines
-  pub right : first_finding (medium_of lines) ≡ None
+  pub image : Snapshot
+  pub there : IsHeld Words name old.held image
+  pub right : first_finding (medium_of image.lines) ≡ None
   pub script : List ℕ
   pub read : Consumes old.left new.left script
-  pub cause : IsCaused (opened lines).geometry stop script old new
+  pub cause : IsCaused (opened image).geometry stop script old new
   pub wrote : (new.written ≡ old.written)
-      ⊎ ((e : Exploration) × IsTaken (opened lines).geometry script e old new × (text : List ℕ)
-      × FirstAnswered (looked_at (opened lines) e) (found (opened lines) e) e.questions text × WritesFront (asked_first (opened lines) e ++ text) old.written new.written)
+      ⊎ ((e : Exploration) × IsTaken (opened image).geometry script e old new × (text : List ℕ)
+      × FirstAnswered (looked_at (opened image) e) (found (opened image) e) e.questions text × WritesFront (asked_first (opened image) e ++ text) old.written new.written)
   pub images : LeavesImages old new
 
 -- the image was not opened, or not all was answered
 abbrev pub Fails : List ℕ → Stopped → World → World → Type 0
-Fails name stop old new = ((ending : Ending) × (stop ≡ stops.Early ending) × FailsToOpen name ending old new) ⊎ Halts name stop old new
+Fails name stop old new = ((ending : Ending) × (stop ≡ stops.Early ending) × FailsToOpen Words name ending old new) ⊎ Halts name stop old new
 
 -- what came of it, or what came in its way
 abbrev pub Outcome : List ℕ → Result Bool Stopped → World → World → Type 0

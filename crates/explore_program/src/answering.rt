@@ -5,6 +5,7 @@ ghost use Rattle.exploration.specs.Exploration.{Asked};
 ghost use Rattle.exploration.specs.Reading.{AskOf};
 ghost use Rattle.outcome_lists.specs.CutPlaces.Places.{found_stop};
 ghost use Rattle.outcome_lists.specs.Explorer.Tabulating.{looked};
+ghost use Rattle.image_file.specs.Text.{snapshot_of};
 ghost use Rattle.program_base.specs.Opening.{opened};
 ghost use Rattle.word_tables.specs.Bounds.{IsValid};
 ghost use Rattle.explore_program.specs.Calls.{AllAskOf, AnswersAll, AreCommands, AreMountable};
@@ -31,14 +32,14 @@ pub fn answer_all<D: LineDevice, K: Sink>(
     device: &mut D,
     answers: &mut K,
 ) -> Result<bool, Stop>
-    requires image { AreMountable image.now.lines.items }
+    requires image { AreMountable (snapshot_of image.now) }
     requires first { AreCommands exploration.now.first.items }
     requires program { AreCommands exploration.now.program.items }
-    requires sizes { (opened image.now.lines.items).geometry ≡ geometry }
+    requires sizes { (opened (snapshot_of image.now)).geometry ≡ geometry }
     requires valid { IsValid geometry }
     ensures { (asked : List Asked) → AskOf asked exploration.now.questions.items
-        → AllAskOf (opened image.now.lines.items).geometry exploration.now.reads.items asked
-        → AnswersAll (looked (opened image.now.lines.items).geometry exploration.now.reads.items) [] (found_stop (begun_at (opened image.now.lines.items) (inputs_of_lines exploration.now.first.items)) (inputs_of_lines exploration.now.program.items)) asked result
+        → AllAskOf (opened (snapshot_of image.now)).geometry exploration.now.reads.items asked
+        → AnswersAll (looked (opened (snapshot_of image.now)).geometry exploration.now.reads.items) [] (found_stop (begun_at (opened (snapshot_of image.now)) (inputs_of_lines exploration.now.first.items)) (inputs_of_lines exploration.now.program.items)) asked result
         (K.written answers.old) (K.written answers.new) (K.count answers.old) (K.count answers.new) (D.state device.old).panel (D.state device.new).panel }
 {
     let looked = look_at(alloc, geometry, &exploration.reads)?;

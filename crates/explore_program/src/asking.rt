@@ -7,6 +7,7 @@ ghost use Rattle.outcome_lists.specs.CutPlaces.Places.{found_stop};
 ghost use Rattle.outcome_lists.specs.Explorer.Finding.{IsFound};
 ghost use Rattle.outcome_lists.specs.Explorer.Stopping.{NoneFell};
 ghost use Rattle.outcome_lists.specs.Explorer.Tabulating.{LooksWithin};
+ghost use Rattle.image_file.specs.Text.{snapshot_of};
 ghost use Rattle.program_base.specs.Opening.{opened};
 ghost use Rattle.explore_program.specs.Calls.{AreCommands, AreMountable, IsUnanswered};
 ghost use Rattle.explore_program.specs.Showing.{begun_at};
@@ -30,13 +31,13 @@ pub fn find<D: LineDevice>(
     question: &Question,
     device: &mut D,
 ) -> Result<Option<Found>, Stop>
-    requires image { AreMountable image.now.lines.items }
+    requires image { AreMountable (snapshot_of image.now) }
     requires first { AreCommands exploration.now.first.items }
     requires program { AreCommands exploration.now.program.items }
-    requires replies { may_be_replies (opened image.now.lines.items).geometry looked.now ≡ true }
+    requires replies { may_be_replies (opened (snapshot_of image.now)).geometry looked.now ≡ true }
     ensures found { (look all : List Seen) → IsLook look question.now → IsLook all looked.now → LooksWithin all look
         → IfOk result (IsFound all look
-        (found_stop (begun_at (opened image.now.lines.items) (inputs_of_lines exploration.now.first.items)) (inputs_of_lines exploration.now.program.items) look)) }
+        (found_stop (begun_at (opened (snapshot_of image.now)) (inputs_of_lines exploration.now.first.items)) (inputs_of_lines exploration.now.program.items) look)) }
     ensures cause { (counted counts : ℕ) → IfErr result (λ stop. IsUnanswered stop counted counts (D.state device.old).panel (D.state device.new).panel) }
     ensures counts { OnOk result (NoneFell (D.state device.old).panel (D.state device.new).panel) }
 {

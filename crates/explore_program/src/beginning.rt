@@ -4,6 +4,7 @@ ghost use Rattle.outcome_lists.specs.Explorer.Starting.{Begins};
 ghost use Rattle.outcome_lists.specs.Explorer.Stopping.{NoneFell};
 ghost use Rattle.outcome_lists.specs.MachineHost.Settling.{GoesOn};
 ghost use Rattle.outcome_lists.specs.MachineHost.Stands.{Stands};
+ghost use Rattle.image_file.specs.Text.{snapshot_of};
 ghost use Rattle.program_base.specs.Opening.{opened};
 ghost use Rattle.explore_program.specs.Calls.{AreMountable, IsUnanswered};
 
@@ -17,10 +18,10 @@ use std::alloc::Global;
 
 /// Makes the device that of the image again, and mounts it: each exploration begins so.
 pub fn begin<D: LineDevice>(alloc: Global, image: &Image, device: &mut D) -> Result<Host, Stop>
-    requires image { AreMountable image.now.lines.items }
+    requires image { AreMountable (snapshot_of image.now) }
     ensures known { IfOk result (λ host. GoesOn host (D.state device.new)) }
-    ensures stands { IfOk result (λ host. Stands host (D.state device.new) (opened image.now.lines.items)) }
-    ensures begins { OnOk result (Begins (opened image.now.lines.items)) }
+    ensures stands { IfOk result (λ host. Stands host (D.state device.new) (opened (snapshot_of image.now))) }
+    ensures begins { OnOk result (Begins (opened (snapshot_of image.now))) }
     ensures cause { (counted counts : ℕ) → IfErr result (λ stop. IsUnanswered stop counted counts (D.state device.old).panel (D.state device.new).panel) }
     ensures counts { OnOk result (NoneFell (D.state device.old).panel (D.state device.new).panel) }
 {

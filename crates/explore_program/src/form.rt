@@ -6,6 +6,7 @@ ghost use Rattle.outcome_lists.specs.MachineHost.Stands.{Stands};
 ghost use Rattle.outcome_lists.specs.AskedReads.Program.{inputs_of_lines};
 ghost use Rattle.outcome_lists.specs.Explorer.Starting.{Begins};
 ghost use Rattle.outcome_lists.specs.Explorer.Stopping.{DeviceStopped, NoneFell};
+ghost use Rattle.image_file.specs.Text.{snapshot_of};
 ghost use Rattle.program_base.specs.Opening.{opened};
 ghost use Rattle.explore_program.specs.Calls.{AreCommands, AreMountable, IsUnanswered};
 ghost use Rattle.explore_program.specs.Showing.{begun_at, form_text, is_asked};
@@ -41,11 +42,11 @@ pub fn make<D: LineDevice>(
     form: Form,
     device: &mut D,
 ) -> Result<Bytes, Stop>
-    requires image { AreMountable image.now.lines.items }
+    requires image { AreMountable (snapshot_of image.now) }
     requires first { AreCommands first.now }
     requires program { AreCommands program.now }
     ensures text { IfOk result (λ text. text.items
-        ≡ form_text form (begun_at (opened image.now.lines.items) (inputs_of_lines first.now)) (inputs_of_lines program.now) reads.now) }
+        ≡ form_text form (begun_at (opened (snapshot_of image.now)) (inputs_of_lines first.now)) (inputs_of_lines program.now) reads.now) }
     ensures cause { (counted counts : ℕ) → IfErr result (λ stop. IsUnanswered stop counted counts (D.state device.old).panel (D.state device.new).panel) }
     ensures counts { OnOk result (NoneFell (D.state device.old).panel (D.state device.new).panel) }
 {

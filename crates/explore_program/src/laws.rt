@@ -1,6 +1,6 @@
 // What an answer rests on: functions without code.
 ghost use Rattle.std.specs.Prelude.{◌≡◌, ℕ, List, map};
-ghost use Rattle.line_device.specs.declared.line.LineState.{LineState};
+ghost use Rattle.image_file.specs.Text.{Snapshot};
 ghost use Rattle.word_tables.specs.declared.geometry.Geometry.{Geometry};
 ghost use Rattle.outcome_lists.specs.OutcomeTest.Stops.{IsProgram};
 ghost use Rattle.outcome_lists.specs.AskedReads.Program.{asks_for};
@@ -20,16 +20,16 @@ use outcome_lists::{
 
 /// Law: an exploration may begin in the state of a right image.
 pub fn images_begin()
-    ensures { (lines : List LineState) → AreMountable lines → Begins (opened lines) }
+    ensures { (image : Snapshot) → AreMountable image → Begins (opened image) }
 {
     runs_keep_states();
 }
 
 /// Law: each answer about a script is a theorem about the machine's runs, and so are its table and its list.
 pub fn answers_are_theorems()
-    ensures { (lines : List LineState) (geo : Geometry) (script : List ℕ) (e : Exploration) → AreMountable lines
+    ensures { (image : Snapshot) (geo : Geometry) (script : List ℕ) (e : Exploration) → AreMountable image
         → script_of geo script ≡ Taken e → IsProgram (map asks_for e.first) → IsProgram (map asks_for e.program)
-        → AreTheorems (begun (opened lines) e) (map asks_for e.program) }
+        → AreTheorems (begun (opened image) e) (map asks_for e.program) }
 {
     runs_keep_states();
     scripts_bring_right();

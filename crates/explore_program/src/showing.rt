@@ -2,6 +2,7 @@
 ghost use Rattle.std.specs.Prelude.{◌≡◌, ◌≤◌, ◌++◌, ℕ, IfErr, IfOk, OnOk};
 ghost use Rattle.outcome_lists.specs.AskedReads.Program.{inputs_of_lines};
 ghost use Rattle.outcome_lists.specs.Explorer.Stopping.{NoneFell};
+ghost use Rattle.image_file.specs.Text.{snapshot_of};
 ghost use Rattle.program_base.specs.Opening.{opened};
 ghost use Rattle.explore_program.specs.Calls.{AreCommands, AreMountable, IsUnanswered, TellsShown};
 ghost use Rattle.explore_program.specs.Showing.{begun_at, if_asked, is_asked, shown};
@@ -24,10 +25,10 @@ pub fn show<D: LineDevice, K: Sink>(
     device: &mut D,
     answers: &mut K,
 ) -> Result<(), Stop>
-    requires image { AreMountable image.now.lines.items }
+    requires image { AreMountable (snapshot_of image.now) }
     requires first { AreCommands exploration.now.first.items }
     requires program { AreCommands exploration.now.program.items }
-    ensures tells { TellsShown (shown exploration.now.table exploration.now.list (begun_at (opened image.now.lines.items) (inputs_of_lines exploration.now.first.items)) (inputs_of_lines exploration.now.program.items) exploration.now.reads.items)
+    ensures tells { TellsShown (shown exploration.now.table exploration.now.list (begun_at (opened (snapshot_of image.now)) (inputs_of_lines exploration.now.first.items)) (inputs_of_lines exploration.now.program.items) exploration.now.reads.items)
         result (K.written answers.old) (K.written answers.new) (K.count answers.old) (K.count answers.new) (D.state device.old).panel (D.state device.new).panel }
     ensures later { K.count answers.old ≤ K.count answers.new }
     ensures counts { OnOk result (NoneFell (D.state device.old).panel (D.state device.new).panel) }
@@ -46,11 +47,11 @@ fn asked<D: LineDevice>(
     exploration: &Exploration,
     device: &mut D,
 ) -> Result<Bytes, Stop>
-    requires image { AreMountable image.now.lines.items }
+    requires image { AreMountable (snapshot_of image.now) }
     requires first { AreCommands exploration.now.first.items }
     requires program { AreCommands exploration.now.program.items }
     ensures text { IfOk result (λ text. text.items
-        ≡ shown exploration.now.table exploration.now.list (begun_at (opened image.now.lines.items) (inputs_of_lines exploration.now.first.items)) (inputs_of_lines exploration.now.program.items) exploration.now.reads.items) }
+        ≡ shown exploration.now.table exploration.now.list (begun_at (opened (snapshot_of image.now)) (inputs_of_lines exploration.now.first.items)) (inputs_of_lines exploration.now.program.items) exploration.now.reads.items) }
     ensures cause { (counted counts : ℕ) → IfErr result (λ stop. IsUnanswered stop counted counts (D.state device.old).panel (D.state device.new).panel) }
     ensures counts { OnOk result (NoneFell (D.state device.old).panel (D.state device.new).panel) }
 {
@@ -69,11 +70,11 @@ fn add<D: LineDevice>(
     device: &mut D,
     text: &mut Bytes,
 ) -> Result<(), Stop>
-    requires image { AreMountable image.now.lines.items }
+    requires image { AreMountable (snapshot_of image.now) }
     requires first { AreCommands exploration.now.first.items }
     requires program { AreCommands exploration.now.program.items }
     ensures text { OnOk result (text.new.items ≡ text.old.items
-        ++ if_asked (is_asked form exploration.now.table exploration.now.list) form (begun_at (opened image.now.lines.items) (inputs_of_lines exploration.now.first.items)) (inputs_of_lines exploration.now.program.items) exploration.now.reads.items) }
+        ++ if_asked (is_asked form exploration.now.table exploration.now.list) form (begun_at (opened (snapshot_of image.now)) (inputs_of_lines exploration.now.first.items)) (inputs_of_lines exploration.now.program.items) exploration.now.reads.items) }
     ensures cause { (counted counts : ℕ) → IfErr result (λ stop. IsUnanswered stop counted counts (D.state device.old).panel (D.state device.new).panel) }
     ensures counts { OnOk result (NoneFell (D.state device.old).panel (D.state device.new).panel) }
 {

@@ -1,6 +1,7 @@
 // The top call: the words, the device, the images, the script, the answers, the status.
 ghost use Rattle.std.specs.Prelude.{◌≡◌, ◌≤◌, ◌⊎◌, ℕ, List, [], ◌∷◌, map};
 ghost use Rattle.std.specs.String.{string_bytes};
+ghost use Rattle.image_file.specs.declared.Units.TheVariants.{Words};
 ghost use Rattle.program_base.specs.Opening.{DeviceFailed};
 ghost use Rattle.program_base.specs.Unfailing.{HoldsRight, NothingFailed};
 ghost use Rattle.program_base.specs.World.{world};
@@ -16,6 +17,7 @@ use crate::showing::show;
 use crate::stop::Stop;
 use exploration::read_script;
 use host_io::{Images, Sink, Source};
+use image_file::Units;
 use line_device::LineDevice;
 use program_base::{fetch, start};
 use std::alloc::Global;
@@ -43,7 +45,7 @@ pub fn nvmexplore<D: LineDevice, F: Images, T: Source, K: Sink>(
 
     // Where nothing failed, the device neither, and a right image is held under the name, it ends well or for want of memory, or its
     // script is not taken or too long.
-    ensures completeness { (name : List ℕ) → map (λ word. string_bytes word) words.now ≡ name ∷ [] → HoldsRight name (F.held images.old)
+    ensures completeness { (name : List ℕ) → map (λ word. string_bytes word) words.now ≡ name ∷ [] → HoldsRight Words name (F.held images.old)
         → NothingFailed
         (world (D.state device.old) (F.held images.old) (F.count images.old) (T.left script.old) (T.count script.old) (K.written answers.old) (K.count answers.old))
         (world (D.state device.new) (F.held images.new) (F.count images.new) (T.left script.new) (T.count script.new) (K.written answers.new) (K.count answers.new))
@@ -104,7 +106,7 @@ fn answer_script<D: LineDevice, F: Images, T: Source, K: Sink>(
         (world (D.state device.old) (F.held images.old) (F.count images.old) (T.left script.old) (T.count script.old) (K.written answers.old) (K.count answers.old))
         (world (D.state device.new) (F.held images.new) (F.count images.new) (T.left script.new) (T.count script.new) (K.written answers.new) (K.count answers.new)) }
 {
-    let image = fetch(alloc, name, images)?;
+    let image = fetch(alloc, name, Units::Words, images)?;
     // It is mounted before the script is read, so that a wrong one is told whatever is asked.
     let host = start(alloc, device, &image)?;
     let text = read_all(alloc, script)?;

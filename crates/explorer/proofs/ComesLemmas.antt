@@ -124,9 +124,9 @@ module _ (h : Machine) where
       by_kind false = refl
 
   -- an attribute that the table has
-  known_done : (name : List ℕ) → refusal h (Attr name) ≡ None → came_of (told_value (attribute name h.geometry)) ≡ Done
+  known_done : (name : List ℕ) → refusal h (Attr name) ≡ None → came_of (told_value (attribute name h.geometry h.unit)) ≡ Done
   unfolding refusal
-  known_done name allowed = by_value (attribute name h.geometry) (none_first (unknown (attribute name h.geometry)) _ (none_second (mode_refusal h.mode h.bad_meta (meaning (Attr name)).needs) _ allowed))
+  known_done name allowed = by_value (attribute name h.geometry h.unit) (none_first (unknown (attribute name h.geometry h.unit)) _ (none_second (mode_refusal h.mode h.bad_meta (meaning (Attr name)).needs) _ allowed))
     where
       by_value : (o : Option ℕ) → unknown o ≡ None → came_of (told_value o) ≡ Done
       by_value None is = cc is

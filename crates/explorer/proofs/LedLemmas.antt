@@ -35,7 +35,7 @@ module _ (h : Machine) (action : Action) where
       where
         by_refusal : (o : Option Answer) → Follows h (unless_refused h o ((meaning action).comes h))
         by_refusal None = (of_program h action program).0
-        by_refusal (Some why) = record { mode = refl; interrupted = refl; metadata = refl; failures = refl; armed = λ on. on }
+        by_refusal (Some why) = record { unit = refl; mode = refl; interrupted = refl; metadata = refl; failures = refl; armed = λ on. on }
 
     keeps_next : Keeps h (led_to h (fate h action))
     keeps_next = by_fate (fate h action) follows_fate
@@ -68,6 +68,7 @@ module _ (h : Machine) (action : Action) where
           mode = kept.mode ∙ ready.mode;
           settled = kept.interrupted ∙ ready.settled;
           metadata = kept.metadata ∙ ready.metadata;
+          unit = kept.unit ∙ ready.unit;
           failures = kept.failures ∙ ready.failures;
         }
 

@@ -65,42 +65,48 @@ module _ (s : JournalState) (inode : ℕ) (ranges : List Span) (switches : List 
       subst (AreTables s.geo.fpages) (set_again inode slot switches s.tables refl)
       (switched_are s.geo.fpages inode low s.tables are switches (made_switches few) free made_pages x.held slot refl (omega (arith, made_filled, room)))
 
-module _ (a b : PagesState) (inode : ℕ) (ranges : List Span) (bytes : List ℕ) (items slice : List (ℕ × Option ℕ)) (same : slice ≡ items) (old mid new : Medium) (valid : IsValid a.journal.geo) (are : AreTables a.journal.geo.fpages a.journal.tables)
-    (low : inode < 64) (writable : AreWritable a.journal old inode ranges) (x : AreAsBefore a old b mid) (made : AreMade a.journal inode ranges (pages_at a.journal.tables.files inode) items b.journal.free)
-    (written : AreWritten a.journal old inode ranges bytes mid items) where
+-- the pages of an atomic write are made, and nothing else has changed
+pub record IsMade (a b : PagesState) (inode : ℕ) (ranges : List Span) (bytes : List ℕ) (items slice : List (ℕ × Option ℕ)) (old mid : Medium) : Type 0 where
+  pub same : slice ≡ items
+  pub valid : IsValid a.journal.geo
+  pub are : AreTables a.journal.geo.fpages a.journal.tables
+  pub low : inode < 64
+  pub writable : AreWritable a.journal old inode ranges
+  pub before : AreAsBefore a old b mid
+  pub made : AreMade a.journal inode ranges (pages_at a.journal.tables.files inode) items b.journal.free
+  pub written : AreWritten a.journal old inode ranges bytes mid items
+
+module _ {a b : PagesState} {inode : ℕ} {ranges : List Span} {bytes : List ℕ} {items slice : List (ℕ × Option ℕ)} {old mid : Medium} (is : IsMade a b inode ranges bytes items slice old mid) where
   few : length items ≤ 16
-  few = omega (arith, made.number, writable.together.few)
+  few = omega (arith, is.made.number, is.writable.together.few)
 
   pub commit-switches : AreSwitches b.journal.geo.fpages slice
   commit-switches =
-      subst (λ (g : Geometry). AreSwitches g.fpages slice) (sym x.geo)
-      (subst (λ (xs : List (ℕ × Option ℕ)). AreSwitches a.journal.geo.fpages xs) (sym same) (made_switches a.journal inode ranges items b.journal.free are low made few))
+      subst (λ (g : Geometry). AreSwitches g.fpages slice) (sym is.before.geo)
+      (subst (λ (xs : List (ℕ × Option ℕ)). AreSwitches a.journal.geo.fpages xs) (sym is.same) (made_switches a.journal inode ranges items b.journal.free is.are is.low is.made few))
 
   pub commit-unrefused : switch_refusal b.journal mid inode slice ≡ None
   commit-unrefused =
       let room : used_pages a.journal.tables.pages + filled_holes a.journal.tables inode items + 16 ≤ a.journal.geo.fpages =
-      omega (arith, writable.room, made_filled a.journal inode ranges items b.journal.free are low made) in
+      omega (arith, is.writable.room, made_filled a.journal inode ranges items b.journal.free is.are is.low is.made) in
       unrefused b.journal mid inode slice
-      (subst (λ (g : Geometry). used_pages b.journal.tables.pages + filled_holes b.journal.tables inode slice + 16 ≤ g.fpages) (sym x.geo)
-      (subst (λ (t : Tables). used_pages t.pages + filled_holes t inode slice + 16 ≤ a.journal.geo.fpages) (sym x.tables)
-      (subst (λ (xs : List (ℕ × Option ℕ)). used_pages a.journal.tables.pages + filled_holes a.journal.tables inode xs + 16 ≤ a.journal.geo.fpages) (sym same) room)))
-      (subst (λ (g : Geometry). AreGood mid (meta_lines g)) (sym x.geo) (λ n below. x.metadata n below ∙ writable.good n below))
-
-  abbrev next : Tables
-  next = switched inode items a.journal.tables
+      (subst (λ (g : Geometry). used_pages b.journal.tables.pages + filled_holes b.journal.tables inode slice + 16 ≤ g.fpages) (sym is.before.geo)
+      (subst (λ (t : Tables). used_pages t.pages + filled_holes t inode slice + 16 ≤ a.journal.geo.fpages) (sym is.before.tables)
+      (subst (λ (xs : List (ℕ × Option ℕ)). used_pages a.journal.tables.pages + filled_holes a.journal.tables inode xs + 16 ≤ a.journal.geo.fpages) (sym is.same) room)))
+      (subst (λ (g : Geometry). AreGood mid (meta_lines g)) (sym is.before.geo) (λ n below. is.before.metadata n below ∙ is.writable.good n below))
 
   pub next_is : switched inode slice b.journal.tables ≡ switched inode items a.journal.tables
-  next_is = ap (λ (xs : List (ℕ × Option ℕ)). switched inode xs b.journal.tables) same ∙ ap (λ (t : Tables). switched inode items t) x.tables
+  next_is = ap (λ (xs : List (ℕ × Option ℕ)). switched inode xs b.journal.tables) is.same ∙ ap (λ (t : Tables). switched inode items t) is.before.tables
 
   pub commit-tables : AreTables a.journal.geo.fpages (switched inode items a.journal.tables)
-  commit-tables = made_tables a.journal inode ranges items b.journal.free are low made few writable.room
+  commit-tables = made_tables a.journal inode ranges items b.journal.free is.are is.low is.made few is.writable.room
 
-  module _ (commits : WritesBackOutside (IsOf (file_area b.journal.geo)) mid new) where
+  module _ {new : Medium} (commits : WritesBackOutside (IsOf (file_area b.journal.geo)) mid new) where
     z : WritesBackOutside (IsOf (file_area a.journal.geo)) mid new
-    z = subst (λ (g : Geometry). WritesBackOutside (IsOf (file_area g)) mid new) x.geo commits
+    z = subst (λ (g : Geometry). WritesBackOutside (IsOf (file_area g)) mid new) is.before.geo commits
 
     pub commit-outside : WritesBackOthers (IsOfFiles a.journal.geo) old new
-    commit-outside = others-trans (IsOfFiles a.journal.geo) old mid new x.outside (record {
+    commit-outside = others-trans (IsOfFiles a.journal.geo) old mid new is.before.outside (record {
       count = z.count;
       bad = λ n _. z.bad n;
       weak = λ n _. z.weak n;
@@ -111,14 +117,14 @@ module _ (a b : PagesState) (inode : ℕ) (ranges : List Span) (bytes : List ℕ
 
     pub commit-files : (t : Tables) → t ≡ switched inode slice b.journal.tables → (files : List File) (file : File) → IsFileAt a.journal old inode files file
         → FilesStand a.journal.geo new t (change_file file_name file.name (on_pages (rewritten ranges bytes)) files)
-    commit-files t is files file at =
-        subst (λ (ts : Tables). FilesStand a.journal.geo new ts (change_file file_name file.name (on_pages (rewritten ranges bytes)) files)) (sym (is ∙ next_is))
-        (rewritten-files a.journal valid are inode ranges bytes items b.journal.free made old mid new x.files written z files file at)
+    commit-files t now files file at =
+        subst (λ (ts : Tables). FilesStand a.journal.geo new ts (change_file file_name file.name (on_pages (rewritten ranges bytes)) files)) (sym (now ∙ next_is))
+        (rewritten-files a.journal is.valid is.are inode ranges bytes items b.journal.free is.made old mid new is.before.files is.written z files file at)
 
     pub commit-images : EachReadsTables b.journal.geo new (IsEither b.journal.tables (switched inode slice b.journal.tables)) → (files : List File) (file : File) → IsFileAt a.journal old inode files file
         → EachReadsFiles a.journal.geo new (OneFileLeft file.name (λ was left. (left ≡ was) ⊎ (left ≡ rewritten ranges bytes was)) files)
     commit-images each files file at =
-        rewritten-images a.journal valid are inode ranges bytes items b.journal.free made old mid new x.files written z files file at commit-tables
+        rewritten-images a.journal is.valid is.are inode ranges bytes items b.journal.free is.made old mid new is.before.files is.written z files file at commit-tables
         (subst (λ (t : Tables). EachReadsTables a.journal.geo new (IsEither a.journal.tables t)) next_is
-        (subst (λ (t : Tables). EachReadsTables a.journal.geo new (IsEither t (switched inode slice b.journal.tables))) x.tables
-        (subst (λ (g : Geometry). EachReadsTables g new (IsEither b.journal.tables (switched inode slice b.journal.tables))) x.geo each)))
+        (subst (λ (t : Tables). EachReadsTables a.journal.geo new (IsEither t (switched inode slice b.journal.tables))) is.before.tables
+        (subst (λ (g : Geometry). EachReadsTables g new (IsEither b.journal.tables (switched inode slice b.journal.tables))) is.before.geo each)))

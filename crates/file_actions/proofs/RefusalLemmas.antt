@@ -51,9 +51,9 @@ write_told s m inode ranges lost =
     (first_there (full_refusal s (holes_touched ranges (pages_there s inode)))
     (first_there (metadata_refusal s.geo m) (poisoned_at lost)))
 
-pub write_checked : (j s : JournalState) → j ≡ s → (m : Medium) (inode : ℕ) (ranges : List Span) → AreTables j.geo.fpages j.tables → (files : List File) (file : File) → IsFileAt s m inode files file
+pub write_checked : {j s : JournalState} → j ≡ s → {m : Medium} {inode : ℕ} (ranges : List Span) → AreTables j.geo.fpages j.tables → {files : List File} {file : File} → IsFileAt s m inode files file
     → (r : Result (Unit {0}) ActionFault) → Checks action_says (write_told j m inode ranges (first_lost ranges file.pages)) r → Checks action_says (write_refusal s m file.pages ranges) r
-write_checked j s same m inode ranges is_right files file at r was_told =
+write_checked {j} {s} same {m} {inode} ranges is_right {files} {file} at r was_told =
     let are = subst (λ (t : JournalState). AreTables t.geo.fpages t.tables) same is_right in
     let told = subst (λ (t : JournalState). Checks action_says (write_told t m inode ranges (first_lost ranges file.pages)) r) same was_told in
     let stands = pages_on s m inode files file are at in

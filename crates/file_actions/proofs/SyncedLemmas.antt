@@ -29,11 +29,12 @@ use Rattle.file_journal.specs.Object.{JournalState}
 use Rattle.file_journal.specs.Standing.{EachReadsFiles, FileStands}
 use Rattle.file_journal.specs.Tables.{AreTables}
 use Rattle.file_journal.proofs.EachFilesLemmas.{each_files-then}
+use Rattle.file_journal.proofs.ReplaceLemmas.{pages_at_most}
 use Rattle.file_pages.specs.Object.{IsFileAt, units_of}
 use Rattle.file_pages.specs.Refusals as of_pages
 use Rattle.file_pages.specs.Refusals.{read_refusal}
 use Rattle.file_pages.proofs.ListedLemmas.{that_units}
-use Rattle.file_pages.proofs.PassLemmas.{length-pages_on}
+use Rattle.file_pages.proofs.PassLemmas.{length-pages_on, pages_on}
 use Rattle.file_pages.proofs.PlaceLemmas.{PagesOn}
 use Rattle.file_actions.specs.Refusals.{all_bytes, sync_refusal}
 
@@ -75,7 +76,7 @@ first-bad pages some few =
     bad : ℕ → Bool
     bad n = is_bad_cell (cell_of pages n)
 
-pub looked-at : (pages : List Page) → 1 ≤ length pages → length pages ≤ 256 → read_refusal pages 0 (4096 * length pages) ≡ of_pages.poisoned_at (next_bad_touched all_bytes pages 0)
+looked-at : (pages : List Page) → 1 ≤ length pages → length pages ≤ 256 → read_refusal pages 0 (4096 * length pages) ≡ of_pages.poisoned_at (next_bad_touched all_bytes pages 0)
 looked-at pages some few =
     let in_range : nat_lt (4096 * length pages) (0 + 4096 * length pages) ≡ false = le-ltb (4096 * length pages) (0 + 4096 * length pages) (omega arith) in
     let has : (4096 * length pages == 0) ≡ false = ne_eqb (4096 * length pages) 0 (λ e. omega (arith, e, some)) in
@@ -90,7 +91,7 @@ map_from-alike f g n (x ∷ xs) same =
     (map_from-alike f g (suc n) xs (λ j y is. let next : n + suc j ≡ suc n + j = omega arith in subst (λ k. f k y ≡ g k y) next (same (suc j) y is)))
 
 -- all lines made durable
-pub all-persisted : (pages : List Page) → ((i : ℕ) (cells : List Cell) → slice_get pages i ≡ Some (Present cells) → length cells ≡ 64) → length pages ≤ 256 → persist 0 (4096 * length pages) pages ≡ persist_spans all_bytes pages
+all-persisted : (pages : List Page) → ((i : ℕ) (cells : List Cell) → slice_get pages i ≡ Some (Present cells) → length cells ≡ 64) → length pages ≤ 256 → persist 0 (4096 * length pages) pages ≡ persist_spans all_bytes pages
 unfolding persist persist_spans
 all-persisted pages whole few =
     map_from-alike (map_lines (persist_cell 0 (4096 * length pages))) (map_lines (persist_touched all_bytes)) 0 pages (λ i page is. by_page i page is)
@@ -130,7 +131,7 @@ may_sync-all count few old new may =
     old new (subst (λ ps. MaySync 0 (4096 * count) ps new) (sym (spans-none old)) may)
 
 -- of no pages
-pub none-bad : (pages : List Page) → length pages ≡ 0 → sync_refusal pages ≡ None
+none-bad : (pages : List Page) → length pages ≡ 0 → sync_refusal pages ≡ None
 unfolding next_bad_touched
 none-bad [] none = refl
 none-bad (page ∷ pages) none = absurd (omega (arith, none))
@@ -140,32 +141,50 @@ unfolding persist_spans
 no-pages [] none = refl
 no-pages (page ∷ pages) none = absurd (omega (arith, none))
 
-module _ (s : JournalState) (old : Medium) (are : AreTables s.geo.fpages s.tables) (inode : ℕ) (listed : List File) (file : File) (at : IsFileAt s old inode listed file) where
+-- how many pages an inode has
+pub record IsCounted (s : JournalState) (inode pages : ℕ) : Type 0 where
+  pub are : AreTables s.geo.fpages s.tables
+  pub low : inode < 64
+  pub count : pages ≡ pages_at s.tables.files inode
+
+module _ {s : JournalState} {inode pages : ℕ} (counted : IsCounted s inode pages) {old : Medium} (listed : List File) (file : File) (at : IsFileAt s old inode listed file) where
+  open counted use {are, low, count}
+
+  few : pages ≤ 256
+  few = omega (arith, count, pages_at_most s.tables.files inode are.names low)
+
+  sized : length file.pages ≡ pages
+  sized = length-pages_on s old inode file.pages (pages_on s old inode listed file are at) ∙ sym count
+
   -- any file of that name is on the inode's units
   on-units : (x : UnitFile) (y : File) → Contains (files_of s.tables) x → x.name ≡ file.name → FileStands s.geo old x y → PagesOn s.geo (units_of s.tables inode) old y.pages
   on-units x y has is stands =
       subst (λ us. PagesOn s.geo us old y.pages) (that_units s.geo s.tables are inode file.name at.named x has is) (record { there = stands.there; stand = stands.stand })
 
-  pub synced-same : pages_at s.tables.files inode ≤ 256
-      → change_file file_name file.name (on_pages (persist 0 (4096 * pages_at s.tables.files inode))) listed ≡ change_file file_name file.name (on_pages (persist_spans all_bytes)) listed
-  synced-same few =
-      change-alike unit_file_name (FileStands s.geo old) file.name (persist 0 (4096 * pages_at s.tables.files inode)) (persist_spans all_bytes) (files_of s.tables) listed
+  pub synced-unrefused : pages ≡ 0 → sync_refusal file.pages ≡ None
+  synced-unrefused none = none-bad file.pages (sized ∙ none)
+
+  pub synced-refused : 1 ≤ pages → read_refusal file.pages 0 (4096 * pages) ≡ of_pages.poisoned_at (next_bad_touched all_bytes file.pages 0)
+  synced-refused some = ap (λ n. read_refusal file.pages 0 (4096 * n)) (sym sized) ∙ looked-at file.pages (omega (arith, sized, some)) (omega (arith, sized, few))
+
+  pub synced-same : change_file file_name file.name (on_pages (λ ps. persist 0 (4096 * pages) ps)) listed ≡ change_file file_name file.name (on_pages (persist_spans all_bytes)) listed
+  synced-same =
+      change-alike unit_file_name (FileStands s.geo old) file.name (persist 0 (4096 * pages)) (persist_spans all_bytes) (files_of s.tables) listed
       (λ x y has is stands.
       let on = on-units x y has is stands in
-      let size = length-pages_on s old inode y.pages on in
+      let size = length-pages_on s old inode y.pages on ∙ sym count in
       ap (λ n. persist 0 (4096 * n) y.pages) (sym size) ∙ all-persisted y.pages on.stand.whole (omega (arith, size, few)))
       at.stand
 
-  pub synced-none : pages_at s.tables.files inode ≡ 0 → change_file file_name file.name (on_pages (persist_spans all_bytes)) listed ≡ listed
+  pub synced-none : pages ≡ 0 → change_file file_name file.name (on_pages (persist_spans all_bytes)) listed ≡ listed
   synced-none none =
-      change-alike unit_file_name (FileStands s.geo old) file.name (persist_spans all_bytes) (λ pages. pages) (files_of s.tables) listed
-      (λ x y has is stands. no-pages y.pages (length-pages_on s old inode y.pages (on-units x y has is stands) ∙ none))
+      change-alike unit_file_name (FileStands s.geo old) file.name (persist_spans all_bytes) (λ ps. ps) (files_of s.tables) listed
+      (λ x y has is stands. no-pages y.pages (length-pages_on s old inode y.pages (on-units x y has is stands) ∙ sym count ∙ none))
       at.stand
       ∙ change-same file_name file.name listed
 
-  pub synced-images : (new : Medium) → pages_at s.tables.files inode ≤ 256 → EachReadsFiles s.geo new (OneFileLeft file.name (MaySync 0 (4096 * pages_at s.tables.files inode)) listed)
-      → EachReadsFiles s.geo new (OneFileLeft file.name (MaySyncAll all_bytes) listed)
-  synced-images new few images =
-      each_files-then s.geo new (OneFileLeft file.name (MaySync 0 (4096 * pages_at s.tables.files inode)) listed) (OneFileLeft file.name (MaySyncAll all_bytes) listed)
-      (λ ys left. left-then file.name (MaySync 0 (4096 * pages_at s.tables.files inode)) (MaySyncAll all_bytes) (may_sync-all (pages_at s.tables.files inode) few) listed ys left)
+  pub synced-images : (new : Medium) → EachReadsFiles s.geo new (OneFileLeft file.name (MaySync 0 (4096 * pages)) listed) → EachReadsFiles s.geo new (OneFileLeft file.name (MaySyncAll all_bytes) listed)
+  synced-images new images =
+      each_files-then s.geo new (OneFileLeft file.name (MaySync 0 (4096 * pages)) listed) (OneFileLeft file.name (MaySyncAll all_bytes) listed)
+      (λ ys left. left-then file.name (MaySync 0 (4096 * pages)) (MaySyncAll all_bytes) (may_sync-all pages few) listed ys left)
       images

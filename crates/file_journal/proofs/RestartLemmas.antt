@@ -1,11 +1,11 @@
 -- The files that a device stands for once the power came back: each word has one of its values.
 use Rattle.std.proofs.Common.{◌≡◌, ℕ, ◌/◌, ◌<◌, List, None, refl, sym, subst, ◌∙◌}
-use Rattle.line_device.specs.History.{IsIn, IsTorn}
+use Rattle.line_device.specs.History.{IsTorn, MayKeep}
 use Rattle.line_device.specs.Medium.{IsHealthy, Medium, Survivors}
 use Rattle.line_device.specs.Panel.{Image}
 use Rattle.line_device.specs.Device.{Depicts}
 use Rattle.line_device.specs.declared.line.Choice.{Choice}
-use Rattle.line_device.proofs.TornLemmas.{torn-in, torn-one}
+use Rattle.line_device.proofs.TornLemmas.{may_keep-torn, torn-one}
 use Rattle.nvm_base.proofs.FirstLemmas.{neither_there}
 use Rattle.word_tables.specs.declared.geometry.Geometry.{Geometry}
 use Rattle.word_tables.specs.Bounds.{IsValid}
@@ -47,7 +47,7 @@ read-stands geo m image are count depicts =
 
 -- A restart leaves of files what it may leave.
 pub files-restarted : (choice : Choice) (geo : Geometry) (old mid : Medium) (image : Image) (files : List File) → AreTables geo.fpages (tables_read geo image.word)
-    → old.count ≡ total_lines geo → FilesStand geo old (tables_read geo image.word) files → Survivors choice old mid → Depicts mid image → KeepsFiles choice geo image files
+    → old.count ≡ total_lines geo → FilesStand geo old (tables_read geo image.word) files → Survivors image.unit choice old mid → Depicts mid image → KeepsFiles choice geo image files
 files-restarted choice geo old mid image files are count stand left depicts =
     let t = tables_read geo image.word in
     alike-among unit_file_name file_name (FileStands geo old) (KeepsFile choice geo image) (files_of t) files
@@ -114,7 +114,7 @@ pub record CameBack (choice : Choice) (geo : Geometry) (image : Image) (P : List
   pub each : EachReadsFiles geo mid (λ x. x ≡ files_read geo image)
 
 pub files_back : (choice : Choice) (geo : Geometry) (old mid : Medium) (image : Image) (P : List File → Type 0) → IsValid geo → old.count ≡ total_lines geo → AreGood old (meta_lines geo)
-    → EachReadsFiles geo old P → Survivors choice old mid → Depicts mid image → CameBack choice geo image P mid
+    → EachReadsFiles geo old P → Survivors image.unit choice old mid → Depicts mid image → CameBack choice geo image P mid
 files_back choice geo old mid image P valid count good each left shows = record {
   left = were.files;
   is = were.is;
@@ -130,7 +130,7 @@ files_back choice geo old mid image P valid count good each left shows = record 
         let back : IsHealthy mid (p / 8) = (subst (λ c. p / 8 < c) (sym left.count) on, left.bad (p / 8) ∙ healthy.1) in
         let word = left.words p healthy in
         let one : image.word p ≡ word.0 = cc (word.1.one, shows.words p back) in
-        torn-in (image.word p) (old.history p) (subst (λ v. IsIn v (old.history p)) (sym one) word.1.was)
+        may_keep-torn image.unit (image.word p) (old.history p) (subst (λ v. MayKeep image.unit v (old.history p)) (sym one) word.1.was)
 
     were : ReadsFiles geo old P image.word
     were = each image.word start_was

@@ -63,7 +63,7 @@ pub fn words_that_hold_tables_read_as_them()
 pub fn files_come_back()
     ensures keeps { (choice : Choice) (geo : Geometry) (old new : Medium) (image : Image) (files : List File)
         → AreTables geo.fpages (tables_read geo image.word) → old.count ≡ total_lines geo → FilesStand geo old (tables_read geo image.word) files
-        → Survivors choice old new → Depicts new image → KeepsFiles choice geo image files }
+        → Survivors image.unit choice old new → Depicts new image → KeepsFiles choice geo image files }
     ensures stands { (geo : Geometry) (m : Medium) (image : Image) → AreTables geo.fpages (tables_read geo image.word)
         → m.count ≡ total_lines geo → Depicts m image → FilesStand geo m (tables_read geo image.word) (files_read geo image) }
     ensures again { (choice : Choice) (geo : Geometry) (image : Image) → KeepsFiles choice geo image (files_read geo image) }

@@ -22,31 +22,41 @@ use Rattle.file_pages.proofs.ListedLemmas.{files-beside}
 use Rattle.file_pages.proofs.PlaceLemmas.{unit_get}
 use Rattle.file_pages.proofs.WorkLemmas.{lines-marks, lines-outside, lines-serve, reads-left}
 
-module _ (s : JournalState) (old new : Medium) (valid : IsValid s.geo) (are : AreTables s.geo.fpages s.tables) (serves : JournalServes s old) (unit : ℕ) (below : unit < s.geo.fpages) (vacant : IsVacant s.tables.pages unit)
-    (x : WritesBackOthers (IsOfUnit (file_line s.geo unit)) old new) where
+-- lines of a unit that no page has were worked on, and no others
+pub record IsRenewed (s : JournalState) (old new : Medium) (unit : ℕ) : Type 0 where
+  pub valid : IsValid s.geo
+  pub are : AreTables s.geo.fpages s.tables
+  pub serves : JournalServes s old
+  pub below : unit < s.geo.fpages
+  pub vacant : IsVacant s.tables.pages unit
+  pub beside : WritesBackOthers (IsOfUnit (file_line s.geo unit)) old new
+
+module _ {s : JournalState} {old new : Medium} {unit : ℕ} (is : IsRenewed s old new unit) where
+  open is use {valid, are, serves, below, vacant, beside}
+
   in_pages : (n : ℕ) → IsOfUnit (file_line s.geo unit) n → HasLine s.geo file_pages n
-  in_pages n is =
+  in_pages n of =
       let first = unit_line_in s.geo unit 0 below in
       let last = unit_line_in s.geo unit 63 below in
-      (omega (arith, is, first), omega (arith, is, last))
+      (omega (arith, of, first), omega (arith, of, last))
 
   apart : (y : UnitFile) → Contains (files_of s.tables) y → (k u n : ℕ) → slice_index_or y.units k None ≡ Some u → IsOfUnit (file_line s.geo unit) (file_line s.geo u + n % 64) → ⊥
-  apart y has k u n is at =
+  apart y has k u n got at =
       let same : unit ≡ u = omega (arith, at) in
-      let entry = entry_of_unit s.geo.fpages s.tables y are has k u (unit_get y.units k u is) in
+      let entry = entry_of_unit s.geo.fpages s.tables y are has k u (unit_get y.units k u got) in
       vacant entry.0 (subst (λ v. IsOn s.tables.pages entry.0 v) (sym same) entry.1)
 
   pub renewed-outside : WritesBackOthers (IsOfFiles s.geo) old new
-  renewed-outside = lines-outside s.geo old new (IsOfUnit (file_line s.geo unit)) in_pages x
+  renewed-outside = lines-outside s.geo old new (IsOfUnit (file_line s.geo unit)) in_pages beside
 
   pub renewed-marks : KeepsMarks s.geo old new
-  renewed-marks = lines-marks s.geo old new (IsOfUnit (file_line s.geo unit)) in_pages x
+  renewed-marks = lines-marks s.geo old new (IsOfUnit (file_line s.geo unit)) in_pages beside
 
   pub renewed-serves : JournalServes s new
-  renewed-serves = lines-serve s old new (IsOfUnit (file_line s.geo unit)) valid in_pages x serves
+  renewed-serves = lines-serve s old new (IsOfUnit (file_line s.geo unit)) valid in_pages beside serves
 
   pub renewed-files : (files : List File) → FilesStand s.geo old s.tables files → FilesStand s.geo new s.tables files
-  renewed-files files stand = files-beside s.geo s.tables old new (IsOfUnit (file_line s.geo unit)) x apart files stand
+  renewed-files files stand = files-beside s.geo s.tables old new (IsOfUnit (file_line s.geo unit)) beside apart files stand
 
   pub renewed-images : (files : List File) → FilesStand s.geo old s.tables files → EachReadsFiles s.geo new (λ left. left ≡ files)
   renewed-images files stand = reads-left s new files (λ left. left ≡ files) are renewed-serves (renewed-files files stand) refl

@@ -15,37 +15,40 @@ use Rattle.file_journal.specs.Standing.{EachReadsFiles, FilesStand}
 use Rattle.file_journal.proofs.EachFilesLemmas.{each_files-then}
 use Rattle.file_pages.specs.Object.{IsFileAt}
 
-module _ (s : JournalState) (old : Medium) (inode at : ℕ) (bytes : List ℕ) (files : List File) (file : File) (is : IsFileAt s old inode files file) where
+-- the fill alone, interrupted
+pub filled_reads : (s : JournalState) (m : Medium) (at : ℕ) (bytes : List ℕ) (files : List File) (file : File) → EachReadsFiles s.geo m (OneFileLeft file.name (λ was left. (left ≡ was) ⊎ (left ≡ fill at (length bytes) was)) files)
+    → EachReadsFiles s.geo m (OneFileLeft file.name (MayStore at bytes) files)
+filled_reads s m at bytes files file each =
+    each_files-then s.geo m (OneFileLeft file.name (λ was left. (left ≡ was) ⊎ (left ≡ fill at (length bytes) was)) files) (OneFileLeft file.name (MayStore at bytes) files)
+    (λ xs left. left-then file.name (λ was l. (l ≡ was) ⊎ (l ≡ fill at (length bytes) was)) (MayStore at bytes) (λ p q l. may_store-filled at bytes p q l) files xs left) each
+
+-- a file that was filled, for the bytes to be put
+pub record IsFilled (s j : JournalState) (old mid : Medium) (inode at : ℕ) (bytes : List ℕ) : Type 0 where
+  pub geo : j.geo ≡ s.geo
+  pub same : j.tables.files ≡ s.tables.files
+  pub stand : (files : List File) (file : File) → IsFileAt s old inode files file → FilesStand s.geo mid j.tables (change_file file_name file.name (on_pages (λ pages. fill at (length bytes) pages)) files)
+
+module _ {s j : JournalState} {old mid : Medium} {inode at : ℕ} {bytes : List ℕ} (is : IsFilled s j old mid inode at bytes) (new : Medium) where
   abbrev filled : List Page → List Page
   filled pages = fill at (length bytes) pages
 
-  abbrev next : List File
-  next = change_file file_name file.name (on_pages filled) files
+  filled_at : (files : List File) (file : File) → IsFileAt s old inode files file → IsFileAt j mid inode (change_file file_name file.name (on_pages filled) files) (on_pages filled file)
+  filled_at files file here = record {
+    named = subst (λ fs. IsNamed fs inode file.name) (sym is.same) here.named;
+    stand = subst (λ (g : Geometry). FilesStand g mid j.tables (change_file file_name file.name (on_pages filled) files)) (sym is.geo) (is.stand files file here);
+    found = found-change file.name filled files file here.found;
+  }
 
-  -- the fill alone, interrupted
-  pub filled_reads : (m : Medium) → EachReadsFiles s.geo m (OneFileLeft file.name (λ was left. (left ≡ was) ⊎ (left ≡ fill at (length bytes) was)) files)
-      → EachReadsFiles s.geo m (OneFileLeft file.name (MayStore at bytes) files)
-  filled_reads m each =
-      each_files-then s.geo m (OneFileLeft file.name (λ was left. (left ≡ was) ⊎ (left ≡ fill at (length bytes) was)) files) (OneFileLeft file.name (MayStore at bytes) files)
-      (λ xs left. left-then file.name (λ was l. (l ≡ was) ⊎ (l ≡ fill at (length bytes) was)) (MayStore at bytes) (λ p q l. may_store-filled at bytes p q l) files xs left) each
+  pub stored_files : ((files : List File) (file : File) → IsFileAt j mid inode files file → FilesStand j.geo new j.tables (change_file file_name file.name (on_pages (λ pages. put at bytes pages)) files))
+      → (files : List File) (file : File) → IsFileAt s old inode files file
+      → FilesStand s.geo new j.tables (change_file file_name file.name (on_pages (λ pages. put at bytes (fill at (length bytes) pages))) files)
+  stored_files done files file here =
+      subst (FilesStand s.geo new j.tables) (change-twice file.name (put at bytes) filled files)
+      (subst (λ (g : Geometry). FilesStand g new j.tables (change_file file_name file.name (on_pages (put at bytes)) (change_file file_name file.name (on_pages filled) files))) is.geo (done _ _ (filled_at files file here)))
 
-  module _ (j : JournalState) (mid new : Medium) (geo : j.geo ≡ s.geo) (same : j.tables.files ≡ s.tables.files) (stand : FilesStand s.geo mid j.tables (change_file file_name file.name (on_pages filled) files)) where
-    pub filled_at : IsFileAt j mid inode (change_file file_name file.name (on_pages filled) files) (on_pages filled file)
-    filled_at = record {
-      named = subst (λ fs. IsNamed fs inode file.name) (sym same) is.named;
-      stand = subst (λ (g : Geometry). FilesStand g mid j.tables (change_file file_name file.name (on_pages filled) files)) (sym geo) stand;
-      found = found-change file.name filled files file is.found;
-    }
-
-    pub stored_files : FilesStand j.geo new j.tables (change_file file_name file.name (on_pages (λ pages. put at bytes pages)) (change_file file_name file.name (on_pages filled) files))
-        → FilesStand s.geo new j.tables (change_file file_name file.name (on_pages (λ pages. put at bytes (fill at (length bytes) pages))) files)
-    stored_files done =
-        subst (FilesStand s.geo new j.tables) (change-twice file.name (put at bytes) filled files)
-        (subst (λ (g : Geometry). FilesStand g new j.tables (change_file file_name file.name (on_pages (put at bytes)) (change_file file_name file.name (on_pages filled) files))) geo done)
-
-    pub stored_reads : EachReadsFiles j.geo new (OneFileLeft file.name (LineByLine (MayPut at bytes)) (change_file file_name file.name (on_pages filled) files))
-        → EachReadsFiles s.geo new (OneFileLeft file.name (MayStore at bytes) files)
-    stored_reads each =
-        subst (λ (g : Geometry). EachReadsFiles g new (OneFileLeft file.name (MayStore at bytes) files)) geo
-        (each_files-then j.geo new (OneFileLeft file.name (LineByLine (MayPut at bytes)) (change_file file_name file.name (on_pages filled) files)) (OneFileLeft file.name (MayStore at bytes) files)
-        (λ xs left. left-changed file.name filled (LineByLine (MayPut at bytes)) (MayStore at bytes) (λ p q l. inr l) files xs left) each)
+  pub stored_reads : ((files : List File) (file : File) → IsFileAt j mid inode files file → EachReadsFiles j.geo new (OneFileLeft file.name (LineByLine (MayPut at bytes)) files))
+      → (files : List File) (file : File) → IsFileAt s old inode files file → EachReadsFiles s.geo new (OneFileLeft file.name (MayStore at bytes) files)
+  stored_reads each files file here =
+      subst (λ (g : Geometry). EachReadsFiles g new (OneFileLeft file.name (MayStore at bytes) files)) is.geo
+      (each_files-then j.geo new (OneFileLeft file.name (LineByLine (MayPut at bytes)) (change_file file_name file.name (on_pages filled) files)) (OneFileLeft file.name (MayStore at bytes) files)
+      (λ xs left. left-changed file.name filled (LineByLine (MayPut at bytes)) (MayStore at bytes) (λ p q l. inr l) files xs left) (each _ _ (filled_at files file here)))

@@ -56,26 +56,35 @@ pub reads-left : (s : JournalState) (m : Medium) (files : List File) (P : List F
     → EachReadsFiles s.geo m P
 reads-left s m files P are serves stand is = each_files-then s.geo m (λ x. x ≡ files) P (λ x same. subst P (sym same) is) (served_files s m files are serves stand)
 
-module _ (s : JournalState) (old new : Medium) (inode start len : ℕ) (valid : IsValid s.geo) (are : AreTables s.geo.fpages s.tables) (low : inode < 64) (serves : JournalServes s old)
-    (x : WritesBackOthers (IsPlaced (file_place s inode) start len) old new) where
+-- lines of a file were worked on, and no others
+pub record IsWorked (s : JournalState) (old new : Medium) (inode start len : ℕ) : Type 0 where
+  pub valid : IsValid s.geo
+  pub are : AreTables s.geo.fpages s.tables
+  pub low : inode < 64
+  pub serves : JournalServes s old
+  pub beside : WritesBackOthers (IsPlaced (file_place s inode) start len) old new
+
+module _ {s : JournalState} {old new : Medium} {inode start len : ℕ} (worked : IsWorked s old new inode start len) where
+  open worked use {valid, are, low, serves, beside}
+
   placed_in : (n : ℕ) → IsPlaced (file_place s inode) start len n → HasLine s.geo file_pages n
   placed_in n is = place_in s.geo (units_of s.tables inode) (units_own s.geo.fpages s.tables are inode low) is.0 n is.2
 
   pub turned-outside : WritesBackOthers (IsOfFiles s.geo) old new
-  turned-outside = lines-outside s.geo old new (IsPlaced (file_place s inode) start len) placed_in x
+  turned-outside = lines-outside s.geo old new (IsPlaced (file_place s inode) start len) placed_in beside
 
   pub turned-marks : KeepsMarks s.geo old new
-  turned-marks = lines-marks s.geo old new (IsPlaced (file_place s inode) start len) placed_in x
+  turned-marks = lines-marks s.geo old new (IsPlaced (file_place s inode) start len) placed_in beside
 
   pub turned-serves : JournalServes s new
-  turned-serves = lines-serve s old new (IsPlaced (file_place s inode) start len) valid placed_in x serves
+  turned-serves = lines-serve s old new (IsPlaced (file_place s inode) start len) valid placed_in beside serves
 
   -- each line of the file that is there turned
   pub turned-files : (f : ℕ → Cell → Cell) (g : List Page → List Page) → ((pages : List Page) → g pages ≡ map_from (map_lines f) 0 pages)
       → ((n line : ℕ) → file_place s inode n ≡ Some line → Turns (f n) line old new)
       → (files : List File) (file : File) → IsFileAt s old inode files file → FilesStand s.geo new s.tables (change_file file_name file.name (on_pages g) files)
   turned-files f g is turned files file at =
-      files-changed s.geo s.tables are inode file.name at.named old new (IsPlaced (file_place s inode) start len) x (λ line placed. (placed.0, placed.2)) g
+      files-changed s.geo s.tables are inode file.name at.named old new (IsPlaced (file_place s inode) start len) beside (λ line placed. (placed.0, placed.2)) g
       (λ pages stands.
       subst (PagesOn s.geo (units_of s.tables inode) new) (sym (is pages))
       (record {
@@ -90,7 +99,7 @@ module _ (s : JournalState) (old new : Medium) (inode start len : ℕ) (valid : 
       → OnErr r ((n line : ℕ) → file_place s inode n ≡ Some line → MayTurn (R n) line old new)
       → (files : List File) (file : File) → IsFileAt s old inode files file → EachReadsFiles s.geo new (OneFileLeft file.name (LineByLine R) files)
   turned-images f R leaves r done stopped files file at =
-      let left = files-left s.geo s.tables are inode file.name at.named old new (IsPlaced (file_place s inode) start len) x (λ line placed. (placed.0, placed.2)) (LineByLine R)
+      let left = files-left s.geo s.tables are inode file.name at.named old new (IsPlaced (file_place s inode) start len) beside (λ line placed. (placed.0, placed.2)) (LineByLine R)
       (λ pages stands.
       let l = left-turned (file_place s inode) (line_at s.geo (units_of s.tables inode)) (pages_there s inode) (located s.geo (units_of s.tables inode)) old pages stands.there stands.stand new r f R leaves done stopped in
       (l.pages, l.may, record { there = l.there ∙ stands.there; stand = l.stand }))

@@ -5,11 +5,14 @@ use Rattle.std.proofs.lemmas.Option.{slice_get_past}
 use Rattle.image_file.specs.Devices.{DepictsLast, IsLastImage, image_of, is_told_bad, is_told_weak, medium_of, told_values}
 use Rattle.image_file.specs.Text.{FitImage}
 use Rattle.image_file.proofs.ShownLemmas.{depicted, depicted_last, sound as sound_image}
+use Rattle.line_device.specs.Device.{Depicts}
 use Rattle.line_device.specs.History.{IsIn}
 use Rattle.line_device.specs.Medium.{Medium, IsHealthy, IsSound, Survivors, last_image}
+use Rattle.line_device.specs.Panel.{Image}
 use Rattle.line_device.specs.declared.line.Choice.TheVariants.{Lasts}
 use Rattle.line_device.specs.declared.line.LineState.{LineState}
 use Rattle.line_device.proofs.HistoryLemmas.{word_write_back-refl}
+use Rattle.line_device.proofs.TornLemmas.{may_keep-in}
 use Rattle.word_tables.specs.declared.geometry.Geometry.{Geometry}
 use Rattle.word_tables.specs.Bounds.{IsValid}
 use Rattle.word_tables.specs.Layout.{meta_lines, total_lines}
@@ -65,8 +68,8 @@ own_sound m sound = record {
 }
 
 -- the power could have come back to the lines of its image: each word has its last value
-own_survivors : (m : Medium) (lines : List LineState) → IsSound m → IsSound (medium_of lines) → IsLastImage m lines → Survivors Lasts (with_own_marks m) (medium_of lines)
-own_survivors m lines sound quiet last = record {
+own_survivors : (unit : ℕ) (m : Medium) (lines : List LineState) → IsSound m → IsSound (medium_of lines) → IsLastImage m lines → Survivors unit Lasts (with_own_marks m) (medium_of lines)
+own_survivors unit m lines sound quiet last = record {
   count = last.count;
   bad = λ n. elim (cases_lt n m.count) as (λ _. (medium_of lines).is_bad n ≡ (nat_lt n m.count && m.is_bad n)) [
     | inl there ↦ told.bad n there ∙ sym (own_kept m n there).bad
@@ -88,16 +91,16 @@ own_survivors m lines sound quiet last = record {
       let line : IsHealthy (medium_of lines) (p / 8) = (subst (λ c. p / 8 < c) (sym last.count) healthy.0, told.bad (p / 8) healthy.0 ∙ good.1) in (
         last_image m p,
         record {
-          one = (depicted lines).words p line ∙ ap (λ v. v ∷ []) (told.words p good);
-          was = sound.last p good;
+          one = (depicted unit lines).words p line ∙ ap (λ v. v ∷ []) (told.words p good);
+          was = may_keep-in unit (last_image m p) (m.history p) (sound.last p good);
           last = λ _. refl;
           first = λ firsts _. cc firsts;
         },
       );
 }
   where
-    told : DepictsLast m (image_of lines)
-    told = depicted_last m lines sound last
+    told : DepictsLast m (image_of unit lines)
+    told = depicted_last m unit lines sound last
 
     none_past : (n : ℕ) → m.count ≤ n → slice_get lines n ≡ None
     none_past n past = slice_get_past lines n (omega (arith, past, last.count))
@@ -122,8 +125,14 @@ module _ (h : Machine) (m : Medium) (lines : List LineState) (sound : IsSound m)
   quiet : IsSound n
   quiet = sound_image lines (omega (arith, (fit_image geo stands.layout.valid).1, last.count, stands.layout.lines))
 
-  left : Survivors Lasts own n
-  left = own_survivors m lines sound quiet last
+  left : Survivors h.unit Lasts own n
+  left = own_survivors h.unit m lines sound quiet last
+
+  abbrev told_image : Image
+  told_image = image_of h.unit lines
+
+  shows_image : Depicts n told_image
+  shows_image = depicted h.unit lines
 
   meta_line : (k : ℕ) → k < meta_lines geo → LineKept m own k
   meta_line k below = kept_of k (let within = meta_within geo in omega (arith, below, within))
@@ -135,7 +144,7 @@ module _ (h : Machine) (m : Medium) (lines : List LineState) (sound : IsSound m)
   own_bad = same_bad geo m own (λ k below. (meta_line k below).bad) ∙ stands.bad
 
   image_layout : HasLayout geo n
-  image_layout = layout-restarted geo own n own_layout Lasts (own_sound m sound) left
+  image_layout = layout-restarted geo own n own_layout h.unit Lasts (own_sound m sound) left
 
   image_bad : bad_metadata geo n.is_bad ≡ h.bad_meta
   image_bad = same_bad geo own n (λ k below. left.bad k) ∙ own_bad
@@ -157,20 +166,21 @@ module _ (h : Machine) (m : Medium) (lines : List LineState) (sound : IsSound m)
     own_files : h.bad_meta ≡ [] → EachReadsFiles geo own (MayLeaveFiles h.mappings h.interrupted h.files)
     own_files none = files_elsewhere geo m own (λ k of. kept_of k (files_within geo k of)) (MayLeaveFiles h.mappings h.interrupted h.files) (each_file none)
 
-    pub is_read_again : IsReadAgain lines h
+    pub is_read_again : IsReadAgain (record { unit = h.unit; lines = lines }) h
     is_read_again = by_lines h.bad_meta refl
       where
-        by_lines : (bad : List ℕ) → h.bad_meta ≡ bad → IsReadAgain lines h
+        by_lines : (bad : List ℕ) → h.bad_meta ≡ bad → IsReadAgain (record { unit = h.unit; lines = lines }) h
         by_lines [] none = record {
-          found = nothing_back h Lasts own n (image_of lines) (good none) (own_blocks none) (own_pages none) (own_files none) left (depicted lines) (own_sound m sound) quiet ∙ sym (ap finding_of none);
-          sizes = λ _. (told_back h Lasts own n (image_of lines) (good none) (own_blocks none) (own_pages none) (own_files none) left (depicted lines) (own_sound m sound) quiet).sizes;
+          found = nothing_back h Lasts own n told_image (good none) (own_blocks none) (own_pages none) (own_files none) left shows_image (own_sound m sound) quiet ∙ sym (ap finding_of none);
+          sizes = λ _. (told_back h Lasts own n told_image (good none) (own_blocks none) (own_pages none) (own_files none) left shows_image (own_sound m sound) quiet).sizes;
           left = record {
+            unit = refl;
             metadata = image_bad;
-            storage = λ _. kept_back h Lasts own n (image_of lines) (good none) (own_blocks none) (own_pages none) (own_files none) left (depicted lines) (own_sound m sound) quiet;
+            storage = λ _. kept_back h Lasts own n told_image (good none) (own_blocks none) (own_pages none) (own_files none) left shows_image (own_sound m sound) quiet;
           };
         }
         by_lines (line ∷ rest) some = record {
           found = bad_found geo n image_layout quiet line rest (image_bad ∙ some) ∙ sym (ap finding_of some);
           sizes = λ none. cc (none, some);
-          left = record { metadata = image_bad; storage = λ none. cc (none, some) };
+          left = record { unit = refl; metadata = image_bad; storage = λ none. cc (none, some) };
         }

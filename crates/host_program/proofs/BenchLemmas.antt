@@ -3,7 +3,7 @@ use Rattle.std.proofs.Common.{◌≡◌, inl, inr, ℕ, ◌++◌, None, Ok, Err,
 use Rattle.std.specs.Io.KnownBytes.{Appends}
 use Rattle.line_device.specs.Device.{Depicts, Device}
 use Rattle.line_device.specs.Medium.{Medium}
-use Rattle.line_device.specs.Panel.{Panel, Runs, SetsUp}
+use Rattle.line_device.specs.Panel.{Panel, Runs, SetsUp, with_unit}
 use Rattle.line_device.specs.Panel.Outcome.{went}
 use Rattle.line_device.proofs.PanelLemmas.{arms_nothing-trans}
 use Rattle.word_tables.specs.Bounds.{IsValid}
@@ -51,11 +51,11 @@ depicts_new geo m fresh = record {
 }
 
 -- a new device that was mounted
-pub is_started : (host : HostState) (old mid new : Device) → IsFresh bench_sizes mid.medium → geometry_told mid.medium ≡ bench_sizes → SetsUp went old.panel mid.panel → HostServes host new
+pub is_started : (host : HostState) (old mid new : Device) → IsFresh bench_sizes mid.medium → geometry_told mid.medium ≡ bench_sizes → SetsUp went (with_unit old.panel mid.panel.unit) mid.panel → HostServes host new
     → Stands host new (record (reading (geometry_told mid.medium) (new_image bench_sizes)) { cut_armed = new.panel.cut_armed; fail_armed = new.panel.fail_armed })
     → Runs mount_calls mount_persists went mid.panel new.panel → IsStarted host old new
 is_started host old mid new fresh told sets serves stands runs =
-    let armed = arms_nothing-trans old.panel mid.panel new.panel sets.armed runs.armed in
+    let armed = arms_nothing-trans old.panel mid.panel new.panel (record { cut = sets.armed.cut; fail = sets.armed.fail }) runs.armed in
     record {
       serves = serves;
       tells = tells_opening old.panel new.panel (opens-mounted went old.panel mid.panel new.panel sets runs);
@@ -66,7 +66,7 @@ is_started host old mid new fresh told sets serves stands runs =
 
 -- why one was not: on a new device nothing is found
 pub unstarted : (fault : MountFault) (m : Medium) (old mid new : Panel) → first_finding m ≡ None → Finds {T = Unit {0}} (first_finding m) (Err fault)
-    → Runs mount_calls mount_persists (mount_outcome {T = Unit {0}} (Err fault)) mid new → SetsUp went old mid → IsUnstarted (of_mount fault) old new
+    → Runs mount_calls mount_persists (mount_outcome {T = Unit {0}} (Err fault)) mid new → SetsUp went (with_unit old mid.unit) mid → IsUnstarted (of_mount fault) old new
 unstarted (mount.Meta line) m old mid new none finds runs sets = let found = finds in cc (none, found)
 unstarted (mount.Layout place) m old mid new none finds runs sets = let found = finds in cc (none, found)
 unstarted mount.Device m old mid new none finds runs sets = let rose = runs.cause.3 in inr (inl (omega (arith, rose, sets.faults)))

@@ -13,11 +13,12 @@ use Rattle.host_io.specs.declared.sink.WriteFault.{WriteFault}
 use Rattle.host_io.specs.declared.sink.WriteFault.TheVariants as write
 use Rattle.line_device.specs.Device.{Device}
 use Rattle.line_device.specs.Medium.{IsSound}
-use Rattle.line_device.specs.Panel.{KeepsPower, Panel, SetsUp, after_disarm}
+use Rattle.line_device.specs.Panel.{IsUnit, KeepsPower, Panel, SetsUp, after_disarm}
 use Rattle.line_device.specs.Panel.Outcome.{went}
 use Rattle.word_tables.specs.declared.geometry.Geometry.{Geometry}
 use Rattle.machine_model.specs.declared.mode.Mode.TheVariants as modes
 use Rattle.machine_host.specs.Machine.{Machine, bad_of}
+use Rattle.machine_host.specs.Restarting.{reading}
 use Rattle.machine_host.specs.Run.{Run}
 use Rattle.script_text.specs.Script.{inputs_of, lines_of}
 use Rattle.machine_host.specs.Settling.{Settled}
@@ -27,9 +28,13 @@ use Rattle.machine_host.proofs.RunLemmas.{tells_then}
 use Rattle.host_program.specs.Bench.{IsUnstarted}
 use Rattle.program_base.specs.Ending.{numbered_line, of_words, of_write}
 use Rattle.host_program.specs.Forms.{Fails, FailsToCreate, IsCaused, IsUnwritten, Outcome, checked_text, created_text}
+use Rattle.image_file.specs.Text.{Snapshot}
+use Rattle.image_file.specs.declared.Units.TheVariants.{All}
+use Rattle.durable.proofs.StepLemmas.{unit_run}
+use Rattle.program_base.specs.Begins.{Begins}
 use Rattle.program_base.specs.Opening.{CountsOpening, FailsToOpen, IsReady, StaysClosed, opened, opening}
 use Rattle.host_program.specs.Running.{Performs}
-use Rattle.host_program.specs.Storing.{HoldsOn, NotReadOut, Stores}
+use Rattle.host_program.specs.Storing.{HoldsOn, IsReadAgain, NotReadOut, Stores}
 use Rattle.program_base.specs.Writing.{WritesFront}
 use Rattle.host_program.specs.Whole.{ComesToRest, IsRun}
 use Rattle.program_base.specs.World.{World}
@@ -38,7 +43,7 @@ use Rattle.program_base.specs.declared.ending.Ending.TheVariants.{Memory, Read, 
 use Rattle.host_program.proofs.AgainLemmas.{is_read_again}
 use Rattle.program_base.proofs.BytesLemmas.{appends-none}
 use Rattle.program_base.proofs.OpenLemmas.{on_opened}
-use Rattle.host_program.proofs.RestLemmas.{rests-settled, stands-read_out}
+use Rattle.host_program.proofs.RestLemmas.{rests-settled, stands-read_out, unit_settles}
 use Rattle.host_program.proofs.RunLemmas.{halts-unstored, is_run-opened}
 use Rattle.host_program.proofs.StoreLemmas.{last-write_back}
 use Rattle.host_program.proofs.UnarmedLemmas.{performs_unarmed}
@@ -90,14 +95,14 @@ unreplaced name geo fault old new wrote memory others failed is_failed counts de
     by_fault write.Memory memory rose = inl (memory refl)
 
 -- what `check` is answered, where the host counted the bad lines of what was opened
-pub checked_ready : (name : List ℕ) (held : Option Held) (host : HostState) (old new : Device) (ready : IsReady name held host old new) (count bad : ℕ) → count ≡ new.medium.count
-    → ((h : Machine) → Stands host new h → bad ≡ bad_of h) → codes "ok " ++ decimal count ++ numbered_line (codes " bad ") bad ≡ checked_text ready.lines
+pub checked_ready : (name : List ℕ) (held : Option Held) (host : HostState) (old new : Device) (ready : IsReady All name held host old new) (count bad : ℕ) → count ≡ new.medium.count
+    → ((h : Machine) → Stands host new h → bad ≡ bad_of h) → codes "ok " ++ decimal count ++ numbered_line (codes " bad ") bad ≡ checked_text ready.image
 checked_ready name held host old new ready count bad is counted =
     ap₂ (λ n bad. codes "ok " ++ decimal n ++ numbered_line (codes " bad ") bad) (is ∙ ready.mounted.count) (counted ready.mounted.begin ready.mounted.stands ∙ ap (λ (h : Machine). bad_of h) ready.mounted.begins.state)
 
 -- a host that opened an image is on
-pub on_ready : (name : List ℕ) (held : Option Held) (host : HostState) (old new : Device) → IsReady name held host old new → host.mode ≡ modes.On
-on_ready name held host old new ready = ready.mounted.stands.mode ∙ ap (λ (h : Machine). h.mode) ready.mounted.begins.state ∙ on_opened ready.lines ready.mounted.right
+pub on_ready : (name : List ℕ) (held : Option Held) (host : HostState) (old new : Device) → IsReady All name held host old new → host.mode ≡ modes.On
+on_ready name held host old new ready = ready.mounted.stands.mode ∙ ap (λ (h : Machine). h.mode) ready.mounted.begins.state ∙ on_opened ready.image ready.mounted.right
 
 -- what is held, held on for a while
 keeps-then : (which : List ℕ → Type 0) (a b c : Option Held) → KeepsHeld (λ _. ⊤) a b → KeepsHeld which b c → KeepsHeld which a c
@@ -119,25 +124,41 @@ unstored e old new counted rest read_out later same (inl (inr read)) =
     subst (λ e. IsCaused e old new) (sym read.0) (let rose = read.1 in omega (arith, rose, later))
 unstored e old new counted rest read_out later same (inr stored) = subst (λ e. IsCaused e old new) (sym stored.0) (inr (subst (λ n. Rose n new.images.replace_faults) same stored.2))
 
--- host and device that were brought to rest go on
-pub served_settled : (name : List ℕ) (held : Option Held) (host after settled : HostState) (left_old left written answered : Option (List ℕ)) (old opened_as ran rest : Device) → IsReady name held host old opened_as
+-- the unit of an image is that of the state which is read there
+unit_begun : (image : Snapshot) (p : Panel) (begin : Machine) → Begins (opened image) p begin → begin.unit ≡ image.unit
+unfolding reading
+unit_begun image p begin begins = ap (λ (h : Machine). h.unit) begins.state
+
+-- host and device that were brought to rest go on, and the host's unit is still that of the image
+pub unit_settled : (name : List ℕ) (held : Option Held) (host after settled : HostState) (left_old left written answered : Option (List ℕ)) (old opened_as ran rest : Device) → IsReady All name held host old opened_as
+    → Performs host after (Ok tt) left_old left written answered opened_as ran → ((h : Machine) → Stands after ran h → Settled h settled (after_disarm ran.panel) rest) → IsUnit settled.unit
+unit_settled name held host after settled left_old left written answered old opened_as ran rest ready performs settles =
+    let says = performs.says ready.mounted.begin ready.mounted.stands in
+    let comes = settles says.end says.outcome.stands in
+    subst IsUnit
+    (sym (comes.stands.unit ∙ unit_settles says.end.mode says.end comes.next comes.starts comes.comes ∙ unit_run (inputs_of says.lines) ready.mounted.begin says.end says.said says.run
+    ∙ unit_begun ready.image old.panel ready.mounted.begin ready.mounted.begins))
+    ready.held_there.right.unit
+
+pub served_settled : (name : List ℕ) (held : Option Held) (host after settled : HostState) (left_old left written answered : Option (List ℕ)) (old opened_as ran rest : Device) → IsReady All name held host old opened_as
     → Performs host after (Ok tt) left_old left written answered opened_as ran → ((h : Machine) → Stands after ran h → Settled h settled (after_disarm ran.panel) rest) → HostServes settled rest
 served_settled name held host after settled left_old left written answered old opened_as ran rest ready performs settles =
     let says = performs.says ready.mounted.begin ready.mounted.stands in (settles says.end says.outcome.stands).serves
 
 -- A script that was performed to its end: host and device were brought to rest, and the image was stored or not.
-pub run_over : (from to : List ℕ) (host after settled : HostState) (opened_as ran rest : Device) (held : Option Held) (counted : ImageCounts) (r : Result (Unit {0}) Ending) (old new : World)
-    → IsReady from old.held host old.device opened_as → Performs host after (Ok tt) old.left new.left old.written new.written opened_as ran
+pub run_over : (from to : List ℕ) (unit : ℕ) (host after settled : HostState) (opened_as ran rest : Device) (held : Option Held) (counted : ImageCounts) (r : Result (Unit {0}) Ending) (old new : World)
+    → unit ≡ settled.unit → IsReady All from old.held host old.device opened_as → Performs host after (Ok tt) old.left new.left old.written new.written opened_as ran
     → ((h : Machine) → Stands after ran h → Settled h settled (after_disarm ran.panel) rest) → IsSound rest.medium
-    → KeepsHeld (λ _. ⊤) old.held held → CountsOpening old.images counted → Stores to r held new.held counted new.images rest new.device → Outcome (of_run from to) r old new
-run_over from to host after settled opened_as ran rest held counted (Ok x) old new ready performs settles sound kept counts stores =
+    → KeepsHeld (λ _. ⊤) old.held held → CountsOpening old.images counted → Stores unit to r held new.held counted new.images rest new.device → Outcome (of_run from to) r old new
+run_over from to unit host after settled opened_as ran rest held counted (Ok x) old new same ready performs settles sound kept counts stores =
     let says = performs.says ready.mounted.begin ready.mounted.stands in
     let comes = settles says.end says.outcome.stands in
     let done = stores.outcome in
-    let image = done.3 in
+    let text = done.3 in
     let stands = comes.stands.device in
+    let now : unit ≡ comes.next.unit = same ∙ comes.stands.unit in
     record {
-      lines = ready.lines;
+      image = ready.image;
       there = ready.held_there;
       right = ready.mounted.right;
       script = says.script;
@@ -148,8 +169,8 @@ run_over from to host after settled opened_as ran rest held counted (Ok x) old n
       short = says.outcome.short;
       ran = record {
         end = says.end;
-        run = subst (λ ls. IsRun (opened ready.lines) old.device.panel ls says.said says.end) (sym (says.split ∙ ap (λ ls. says.lines ++ ls) says.outcome.none_left ∙ append-nil says.lines))
-            (is_run-opened ready.lines old.device.panel says.lines says.said ready.mounted.begin says.end ready.mounted.begins says.run);
+        run = subst (λ ls. IsRun (opened ready.image) old.device.panel ls says.said says.end) (sym (says.split ∙ ap (λ ls. says.lines ++ ls) says.outcome.none_left ∙ append-nil says.lines))
+            (is_run-opened ready.image old.device.panel says.lines says.said ready.mounted.begin says.end ready.mounted.begins says.run);
         starts = comes.starts;
         comes = comes.comes;
         settled = record {
@@ -165,23 +186,28 @@ run_over from to host after settled opened_as ran rest held counted (Ok x) old n
       };
       unarmed = λ cut fail arm.
           let all : lines_of says.script ≡ says.lines = says.split ∙ ap (λ ls. says.lines ++ ls) says.outcome.none_left ∙ append-nil says.lines in
-          performs_unarmed ready.lines old.device.panel (inputs_of (lines_of says.script)) says.said ready.mounted.begin says.end ready.mounted.begins
+          performs_unarmed ready.image old.device.panel (inputs_of (lines_of says.script)) says.said ready.mounted.begin says.end ready.mounted.begins
           (subst (λ ls. Run ready.mounted.begin (inputs_of ls) says.said says.end) (sym all) says.run) cut fail arm;
       wrote = subst (Appends old.written new.written) says.outcome.all says.wrote;
       stored = record {
-        lines = image.lines;
-        last = last-write_back rest.medium new.device.medium image.lines stores.wrote image.last;
-        right = image.right;
+        image = record { unit = unit; lines = text.lines };
+        last = last-write_back rest.medium new.device.medium text.lines stores.wrote text.last;
+        right = text.right;
         holds = record {
-          text = subst (λ t. IfSome new.held (λ look. look to ≡ Some t)) image.is done.4;
+          text = subst (λ t. IfSome new.held (λ look. look to ≡ Some t)) text.is done.4;
           others = keeps-then (λ other. other ≢ to) old.held held new.held kept done.5;
         };
-        again = is_read_again comes.next rest.medium image.lines sound image.last stands.metadata stands.blocks stands.volume stands.files;
+        again =
+            subst (λ u. IsReadAgain (record { unit = u; lines = text.lines }) comes.next) (sym now)
+            (is_read_again comes.next rest.medium text.lines sound text.last stands.metadata stands.blocks stands.volume stands.files);
       };
+      unit =
+          now ∙ unit_settles says.end.mode says.end comes.next comes.starts comes.comes ∙ unit_run (inputs_of says.lines) ready.mounted.begin says.end says.said says.run
+          ∙ unit_begun ready.image old.device.panel ready.mounted.begin ready.mounted.begins;
       fetches = stores.fetches ∙ counts.fetches;
       replaces = done.1 ∙ ap raised counts.replaces;
     }
-run_over from to host after settled opened_as ran rest held counted (Err e) old new ready performs settles sound kept counts stores =
+run_over from to unit host after settled opened_as ran rest held counted (Err e) old new same ready performs settles sound kept counts stores =
     let says = performs.says ready.mounted.begin ready.mounted.stands in
     let comes = settles says.end says.outcome.stands in
     let left = stores.outcome in
@@ -220,7 +246,7 @@ run_over from to host after settled opened_as ran rest held counted (Err e) old 
     replaced (inr one) = inr (one ∙ ap raised counts.replaces)
 
 -- nothing was done for want of memory
-closed : (name : List ℕ) (old : World) → FailsToOpen name Memory old old
+closed : (name : List ℕ) (old : World) → FailsToOpen All name Memory old old
 closed name old = record {
   cause = tt;
   opens = opens-none old.device.panel;
@@ -232,7 +258,7 @@ closed name old = record {
 
 pub unread : (fault : WordsFault) (form : Form) (old : World) → (fault ≡ words.Usage → ⊥) → Fails form (of_words fault) old old
 unread words.Usage form old used = absurd (used refl)
-unread words.Memory (of_new name geo) old used =
+unread words.Memory (of_new unit name geo) old used =
     untold name geo write.Memory old old (record { part = []; front = record { rest = created_text geo; joined = refl }; wrote = appends-none old.written }) (λ is. cc is) refl refl refl refl refl
 unread words.Memory (of_run from to) old used = inl (closed from old)
 unread words.Memory (of_check name) old used = inl (closed name old)
@@ -244,14 +270,14 @@ unread words.Memory (of_bench seed count) old used = inl (record {
 })
 
 -- a form that was read is not taken for none
-pub never_new : (name : List ℕ) (geo : Geometry) (r : Result (Unit {0}) Ending) (old new : World) → Outcome (of_new name geo) r old new → r ≡ Err Usage → ⊥
-never_new name geo (Ok x) old new outcome is = cc is
-never_new name geo (Err e) old new outcome is = let same : e ≡ Usage = cc is in subst (λ e. IsUnwritten e old new) same outcome.cause
+pub never_new : (unit : ℕ) (name : List ℕ) (geo : Geometry) (r : Result (Unit {0}) Ending) (old new : World) → Outcome (of_new unit name geo) r old new → r ≡ Err Usage → ⊥
+never_new unit name geo (Ok x) old new outcome is = cc is
+never_new unit name geo (Err e) old new outcome is = let same : e ≡ Usage = cc is in subst (λ e. IsUnwritten e old new) same outcome.cause
 
 pub never_check : (name : List ℕ) (r : Result (Unit {0}) Ending) (old new : World) → Outcome (of_check name) r old new → r ≡ Err Usage → ⊥
 never_check name (Ok x) old new outcome is = cc is
 never_check name (Err e) old new (inl closed) is =
-    let same : e ≡ Usage = cc is in subst (λ e. StaysClosed name old.held e old.images new.images old.device.panel new.device.panel) same closed.cause
+    let same : e ≡ Usage = cc is in subst (λ e. StaysClosed All name old.held e old.images new.images old.device.panel new.device.panel) same closed.cause
 never_check name (Err e) old new (inr untold) is = let same : e ≡ Usage = cc is in subst (λ e. IsUnwritten e old new) same untold.cause
 
 pub never_bench : (seed count : ℕ) (r : Result (Unit {0}) Ending) (old new : World) → Outcome (of_bench seed count) r old new → r ≡ Err Usage → ⊥

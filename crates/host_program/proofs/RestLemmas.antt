@@ -15,7 +15,9 @@ use Rattle.machine_model.specs.declared.mode.Mode.{Mode}
 use Rattle.machine_model.specs.declared.mode.Mode.TheVariants as modes
 use Rattle.machine_host.specs.Commands.{MayLeaveBlocks, MayLeaveFiles, MayLeaveVolume}
 use Rattle.machine_host.specs.Machine.{Machine}
-use Rattle.machine_host.specs.Settling.{Asks, LeftUnsettled, SettlesTo}
+use Rattle.machine_host.specs.Restarting.{reading}
+use Rattle.machine_host.specs.Settling.{Asks, LeftUnsettled, SettlesTo, disarmed}
+use Rattle.machine_model.specs.Recovering.{RecoversTo}
 use Rattle.machine_host.specs.Stands.{DeviceStands, HostServes, HostState}
 use Rattle.machine_host.specs.Telling.{bumped_by}
 use Rattle.machine_host.proofs.LayoutLemmas.{layout-write_back, metadata-then}
@@ -33,6 +35,18 @@ few_starts modes.On h next starts comes = omega (arith, ap length comes.0)
 few_starts modes.Off h next starts comes = omega (arith, ap length comes.1)
 few_starts modes.Unsettled h next starts comes = omega (arith, ap length comes.0)
 few_starts modes.Stopped h next starts comes = omega (arith, ap length comes.0)
+
+-- nor does it change the unit
+unit_recovered : (bad : List ℕ) (h next : Machine) → RecoversTo bad h next → next.unit ≡ h.unit
+unit_recovered [] h next to = ap (λ (m : Machine). m.unit) to.state
+unit_recovered (line ∷ lines) h next to = ap (λ (m : Machine). m.unit) to
+
+pub unit_settles : (mode : Mode) (h next : Machine) (starts : List Start) → SettlesTo mode h starts next → next.unit ≡ h.unit
+unfolding reading
+unit_settles modes.On h next starts comes = ap (λ (m : Machine). m.unit) comes.1
+unit_settles modes.Off h next starts comes = ap (λ (m : Machine). m.unit) comes.4 ∙ comes.3.unit
+unit_settles modes.Unsettled h next starts comes = unit_recovered h.bad_meta (disarmed h) next comes.1
+unit_settles modes.Stopped h next starts comes = ap (λ (m : Machine). m.unit) comes.1
 
 bumped_once : (starts : List Start) (count : ℕ) → length starts ≤ 1 → bumped_by starts count ≤ count + 1
 bumped_once [] count few = omega arith
@@ -91,6 +105,7 @@ fit_served host d serves = subst FitImage (sym serves.layout.lines) (fit_image h
 pub stands-read_out : (h : Machine) (old new : Device) → DeviceStands old h → WritesBack old.medium new.medium → SetsUp went old.panel new.panel → new.panel.power ≡ old.panel.power
     → h.cut_armed ≡ false → h.fail_armed ≡ false → DeviceStands new h
 stands-read_out h old new stands w sets power cut fail = record {
+  unit = sets.orders.unit ∙ stands.unit;
   metadata = metadata-then h.geometry old.medium new.medium h.bad_meta (layout-write_back h.geometry old.medium new.medium stands.metadata.layout w) (λ n below. w.bad n) stands.metadata;
   blocks = λ none. each_reads-write_back h.geometry old.medium new.medium (MayLeaveBlocks h.interrupted h.blocks) w (stands.blocks none);
   volume = λ none.

@@ -5,9 +5,10 @@ use Rattle.std.specs.Io.KnownBytes.{Consumes}
 use Rattle.nvm_base.specs.Counts.{raised}
 use Rattle.host_io.specs.Images.{KeepsHeld}
 use Rattle.image_file.specs.Devices.{image_of, medium_of}
+use Rattle.image_file.specs.Text.{Snapshot}
+use Rattle.image_file.specs.declared.Units.TheVariants.{All}
 use Rattle.line_device.specs.Device.{Device}
 use Rattle.line_device.specs.Panel.{Image, Panel}
-use Rattle.line_device.specs.declared.line.LineState.{LineState}
 use Rattle.script_text.specs.Script.{inputs_of}
 use Rattle.recovery.specs.Findings.{geometry_told}
 use Rattle.word_tables.specs.declared.geometry.Geometry.{Geometry}
@@ -47,9 +48,9 @@ is_run geo image p performed said begin end begins run = record {
 }
 
 -- and one over what was read in an image
-pub is_run-opened : (lines : List LineState) (p : Panel) (performed : List (List ℕ)) (said : Transcript) (begin end : Machine) → Begins (opened lines) p begin → Run begin (inputs_of performed) said end
-    → IsRun (opened lines) p performed said end
-is_run-opened lines = is_run (geometry_told (medium_of lines)) (image_of lines)
+pub is_run-opened : (image : Snapshot) (p : Panel) (performed : List (List ℕ)) (said : Transcript) (begin end : Machine) → Begins (opened image) p begin → Run begin (inputs_of performed) said end
+    → IsRun (opened image) p performed said end
+is_run-opened image = is_run (geometry_told (medium_of image.lines)) (image_of image.unit image.lines)
 
 -- why a script was not performed to its end
 run_cause : (e : Ending) (script : List ℕ) (old new : World) → Consumes old.left new.left script → (e ≡ Script → 1073741824 ≤ length script) → IsBroken e old.reads new.reads old.writes new.writes → IsCaused e old new
@@ -69,13 +70,13 @@ run_cause (Meta line) script old new read long broken = absurd broken
 run_cause endings.Device script old new read long broken = absurd broken
 
 -- It was not performed to its end, or its replies were not all written.
-pub halts-unperformed : (from to : List ℕ) (e : Ending) (host after : HostState) (opened : Device) (old new : World) → IsReady from old.held host old.device opened
+pub halts-unperformed : (from to : List ℕ) (e : Ending) (host after : HostState) (opened : Device) (old new : World) → IsReady All from old.held host old.device opened
     → Performs host after (Err e) old.left new.left old.written new.written opened new.device → IsBroken e old.reads new.reads old.writes new.writes
     → KeepsHeld (λ _. ⊤) old.held new.held → CountsOpening old.images new.images → Halts from to e old new
 halts-unperformed from to e host after opened old new ready performs broken kept counts =
     let says = performs.says ready.mounted.begin ready.mounted.stands in
     record {
-      lines = ready.lines;
+      image = ready.image;
       there = ready.held_there;
       right = ready.mounted.right;
       cause = run_cause e says.script old new says.read says.outcome.long broken;
@@ -88,7 +89,7 @@ halts-unperformed from to e host after opened old new ready performs broken kept
       read = says.read;
       split = says.split;
       whole = says.whole;
-      run = is_run-opened ready.lines old.device.panel says.lines says.said ready.mounted.begin says.end ready.mounted.begins says.run;
+      run = is_run-opened ready.image old.device.panel says.lines says.said ready.mounted.begin says.end ready.mounted.begins says.run;
       front = says.front;
       answered = says.outcome.answered;
       long = says.outcome.long;
@@ -111,7 +112,7 @@ halts-unperformed from to e host after opened old new ready performs broken kept
     by_source (inr is) = inr (inl is)
 
 -- The script was performed, and then host and device were brought to rest, or not; and the image was not stored.
-pub halts-unstored : (from to : List ℕ) (e : Ending) (host after : HostState) (opened ran : Device) (old new : World) → IsReady from old.held host old.device opened
+pub halts-unstored : (from to : List ℕ) (e : Ending) (host after : HostState) (opened ran : Device) (old new : World) → IsReady All from old.held host old.device opened
     → Performs host after (Ok tt) old.left new.left old.written new.written opened ran → GoesToRest ran.panel new.device.panel → ((e ≡ Read) ⊎ (e ≡ Script) → ⊥)
     → (e ≡ Write → (end : Machine) → Stands after ran end → ComesToRest end new.device) → IsCaused e old new
     → (new.images.replaces ≡ old.images.replaces) ⊎ (new.images.replaces ≡ raised old.images.replaces) → new.images.fetches ≡ raised old.images.fetches
@@ -120,7 +121,7 @@ halts-unstored from to e host after opened ran old new ready performs rests not_
     let says = performs.says ready.mounted.begin ready.mounted.stands in
     let through : IsThrough says.said says.part says.others new.left = record { none_left = says.outcome.none_left; all = says.outcome.all; ended = says.outcome.ended } in
     record {
-      lines = ready.lines;
+      image = ready.image;
       there = ready.held_there;
       right = ready.mounted.right;
       cause = caused;
@@ -133,7 +134,7 @@ halts-unstored from to e host after opened ran old new ready performs rests not_
       read = says.read;
       split = says.split;
       whole = says.whole;
-      run = is_run-opened ready.lines old.device.panel says.lines says.said ready.mounted.begin says.end ready.mounted.begins says.run;
+      run = is_run-opened ready.image old.device.panel says.lines says.said ready.mounted.begin says.end ready.mounted.begins says.run;
       front = says.front;
       answered = λ by. absurd (not_source by);
       long = λ is. absurd (not_source (inr is));

@@ -4,6 +4,7 @@ use Rattle.image_file.specs.declared.Image.{Image}
 use Rattle.image_file.specs.Devices.{IsLastImage}
 use Rattle.image_file.specs.Text.{FitImage, image_text, snapshot_of}
 use Rattle.image_file.proofs.ShownLemmas.{snapshot_last}
+use Rattle.line_device.specs.Panel.{IsUnit}
 use Rattle.line_device.specs.Medium.{Medium, Shows, WritesBack}
 use Rattle.line_device.specs.declared.line.LineState.{LineState}
 use Rattle.line_device.specs.declared.line.LineState.TheVariants.{Healthy, Weak, Bad}
@@ -11,12 +12,12 @@ use Rattle.line_device.proofs.WriteBackLemmas.{newest-write_back}
 use Rattle.host_program.specs.Storing.{AreLast}
 
 -- the text of the lines that were read out
-pub are_last : (m : Medium) (image : Image) (text : List ℕ) → FitImage m.count → image.unit ≡ 8 → IsLastImage m image.lines.items → text ≡ image_text (snapshot_of image) → AreLast m text
-are_last m image text fit unit last is = record {
+pub are_last : (unit : ℕ) (m : Medium) (image : Image) (text : List ℕ) → IsUnit unit → FitImage m.count → image.unit ≡ unit → IsLastImage m image.lines.items → text ≡ image_text (snapshot_of image) → AreLast unit m text
+are_last unit m image text known fit same last is = record {
   lines = image.lines.items;
   last = last;
-  right = snapshot_last m image.lines.items fit last;
-  is = is ∙ ap (λ u. image_text (record { unit = u; lines = image.lines.items })) unit;
+  right = snapshot_last m unit image.lines.items known fit last;
+  is = is ∙ ap (λ u. image_text (record { unit = u; lines = image.lines.items })) same;
 }
 
 -- what a line shows it shows after it was written back

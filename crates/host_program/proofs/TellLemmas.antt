@@ -1,6 +1,6 @@
 -- What a device told as it was set up, and of a run that ended early.
 use Rattle.std.proofs.Common.{ℕ, [], ◌∷◌, inl, inr, refl, sym, ap, subst, ◌∙◌, arith}
-use Rattle.line_device.specs.Panel.{Panel, ArmsNothing, SetsUp, Outcome, after_restart}
+use Rattle.line_device.specs.Panel.{Panel, ArmsNothing, after_restart}
 use Rattle.line_device.proofs.PanelLemmas.{arms_nothing-refl}
 use Rattle.line_device.specs.Device.{Device}
 use Rattle.line_device.specs.declared.line.Choice.{Choice}

@@ -1,10 +1,10 @@
 -- A run over an image where nothing is armed.
-use Rattle.std.proofs.Common.{◌≡◌, ℕ, Bool, true, false, IsTrue, List, [], ◌∷◌, refl, sym, ap, subst, ◌∙◌}
+use Rattle.std.proofs.Common.{◌≡◌, ℕ, Bool, true, false, IsTrue, List, [], ◌∷◌, refl, sym, subst, ◌∙◌}
 use Rattle.std.proofs.lemmas.Bool.{both_ways}
 use Rattle.image_file.specs.Devices.{image_of, medium_of}
+use Rattle.image_file.specs.Text.{Snapshot}
 use Rattle.recovery.specs.Findings.{geometry_told}
 use Rattle.line_device.specs.Panel.{Image, Panel}
-use Rattle.line_device.specs.declared.line.LineState.{LineState}
 use Rattle.machine_host.specs.Lines.{bad_metadata}
 use Rattle.machine_host.specs.Machine.{Machine}
 use Rattle.machine_host.specs.Restarting.{read_with, reading}
@@ -26,7 +26,7 @@ unarmed_reading : (geo : Geometry) (image : Image) → IsUnarmed (reading geo im
 unfolding reading
 unarmed_reading geo image = by_bad (bad_metadata geo image.is_bad)
   where
-    by_bad : (bad : List ℕ) → IsUnarmed (read_with bad geo image)
+    by_bad : (bad : List ℕ) → IsUnarmed (record (read_with bad geo image) { unit = image.unit })
     by_bad [] = record { cut = refl; failure = refl; settled = λ is. cc is }
     by_bad (line ∷ lines) = record { cut = refl; failure = refl; settled = λ is. cc is }
 
@@ -38,8 +38,8 @@ begins_unarmed first begin p un begins cut fail =
     begins.state ∙ (λ i. record first { cut_armed = no_cut i; fail_armed = no_failure i })
 
 -- so it went as the machine alone performs it
-pub performs_unarmed : (lines : List LineState) (p : Panel) (inputs : List Input) (said : Transcript) (begin end : Machine) → Begins (opened lines) p begin → Run begin inputs said end
-    → p.cut_armed ≡ false → p.fail_armed ≡ false → ArmNothing inputs → perform (opened lines) inputs said.starts ≡ record { said = said; state = end }
-performs_unarmed lines p inputs said begin end begins run cut fail arm =
-    let un = unarmed_reading (geometry_told (medium_of lines)) (image_of lines) in
-    unarmed_performs (opened lines) inputs said end un arm (subst (λ m. Run m inputs said end) (begins_unarmed (opened lines) begin p un begins cut fail) run)
+pub performs_unarmed : (image : Snapshot) (p : Panel) (inputs : List Input) (said : Transcript) (begin end : Machine) → Begins (opened image) p begin → Run begin inputs said end
+    → p.cut_armed ≡ false → p.fail_armed ≡ false → ArmNothing inputs → perform (opened image) inputs said.starts ≡ record { said = said; state = end }
+performs_unarmed image p inputs said begin end begins run cut fail arm =
+    let un = unarmed_reading (geometry_told (medium_of image.lines)) (image_of image.unit image.lines) in
+    unarmed_performs (opened image) inputs said end un arm (subst (λ m. Run m inputs said end) (begins_unarmed (opened image) begin p un begins cut fail) run)

@@ -34,7 +34,7 @@ bench_sizes = record { blocks = 64; vpages = 8; fpages = 64 }
 
 -- a new device: its superblock, and then zeros
 abbrev pub new_image : Geometry → DeviceImage
-new_image geo = record { count = total_lines geo; is_bad = λ _. false; is_weak = λ _. false; word = fresh_word geo }
+new_image geo = record { count = total_lines geo; is_bad = λ _. false; is_weak = λ _. false; unit = 8; word = fresh_word geo }
 
 -- the machine that is read there
 abbrev pub new_machine : Geometry → Machine

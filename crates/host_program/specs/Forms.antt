@@ -7,8 +7,8 @@ use Rattle.command_line.specs.Words.Form.{of_new, of_run, of_check, of_bench}
 use Rattle.host_io.specs.Images.{KeepsHeld}
 use Rattle.host_io.specs.declared.images.ImageCounts.{ImageCounts}
 use Rattle.image_file.specs.Devices.{medium_of}
-use Rattle.image_file.specs.Text.{fresh_snapshot}
-use Rattle.line_device.specs.declared.line.LineState.{LineState}
+use Rattle.image_file.specs.Text.{Snapshot, fresh_snapshot}
+use Rattle.image_file.specs.declared.Units.TheVariants.{All}
 use Rattle.machine_model.specs.Performing.{perform}
 use Rattle.machine_model.specs.Unarmed.{ArmNothing}
 use Rattle.machine_host.specs.Machine.{Machine, bad_of}
@@ -35,8 +35,8 @@ use Rattle.program_base.specs.declared.ending.Ending.TheVariants as endings
 abbrev pub created_text : Geometry → List ℕ
 created_text geo = numbered_line (codes "ok ") (total_lines geo)
 
-abbrev pub checked_text : List LineState → List ℕ
-checked_text lines = codes "ok " ++ decimal (length lines) ++ numbered_line (codes " bad ") (bad_of (opened lines))
+abbrev pub checked_text : Snapshot → List ℕ
+checked_text image = codes "ok " ++ decimal (length image.lines) ++ numbered_line (codes " bad ") (bad_of (opened image))
 
 -- an image was replaced, once or not at all; and none was fetched
 pub record CountsCreating (old new : ImageCounts) : Type 0 where
@@ -45,9 +45,9 @@ pub record CountsCreating (old new : ImageCounts) : Type 0 where
   pub replaces : (new.replaces ≡ old.replaces) ⊎ (new.replaces ≡ raised old.replaces)
   pub replace_faults : old.replace_faults ≤ new.replace_faults
 
--- `new` is done: the fresh image is held under the name, and its line was written.
-pub record Creates (name : List ℕ) (geo : Geometry) (old new : World) : Type 0 where
-  pub holds : Holds name (fresh_snapshot geo) old.held new.held
+-- `new` or `newbyte` is done: the fresh image of its unit is held under the name, and its line was written.
+pub record Creates (unit : ℕ) (name : List ℕ) (geo : Geometry) (old new : World) : Type 0 where
+  pub holds : Holds name (fresh_snapshot unit geo) old.held new.held
   pub wrote : Appends old.written new.written (created_text geo)
   pub replaces : new.images.replaces ≡ raised old.images.replaces
   pub counts : CountsCreating old.images new.images
@@ -56,39 +56,40 @@ pub record Creates (name : List ℕ) (geo : Geometry) (old new : World) : Type 0
 
 -- `check` is done: the image is a right one, and its line was written.
 pub record Checks (name : List ℕ) (old new : World) : Type 0 where
-  pub lines : List LineState
-  pub there : IsHeld name old.held lines
-  pub right : first_finding (medium_of lines) ≡ None
-  pub wrote : Appends old.written new.written (checked_text lines)
+  pub image : Snapshot
+  pub there : IsHeld All name old.held image
+  pub right : first_finding (medium_of image.lines) ≡ None
+  pub wrote : Appends old.written new.written (checked_text image)
   pub tells : Tells opening old.device.panel new.device.panel
   pub held : KeepsHeld (λ _. ⊤) old.held new.held
   pub counts : CountsOpening old.images new.images
   pub script : LeavesScript old new
 
 -- `run` is done: all of the script was read and performed from the state that was read in the image, the replies were written
--- and nothing else, and all that the device holds then is held under the other name.
+-- and nothing else, and all that the device holds then is held under the other name, as an image of the same unit.
 pub record Completes (from to : List ℕ) (old new : World) : Type 0 where
-  pub lines : List LineState
-  pub there : IsHeld from old.held lines
-  pub right : first_finding (medium_of lines) ≡ None
+  pub image : Snapshot
+  pub there : IsHeld All from old.held image
+  pub right : first_finding (medium_of image.lines) ≡ None
   pub script : List ℕ
   pub said : Transcript
   pub last : Machine
   pub read : Consumes old.left new.left script
   pub ended : IsAtEnd new.left
   pub short : length script < 1073741824
-  pub ran : Ran (opened lines) (lines_of script) said last old.device new.device
+  pub ran : Ran (opened image) (lines_of script) said last old.device new.device
   -- where nothing is armed, neither before nor by a line, it went as the machine alone performs it, given what each restart left
   pub unarmed : old.device.panel.cut_armed ≡ false → old.device.panel.fail_armed ≡ false → ArmNothing (inputs_of (lines_of script))
-      → perform (opened lines) (inputs_of (lines_of script)) said.starts ≡ record { said = said; state = ran.end }
+      → perform (opened image) (inputs_of (lines_of script)) said.starts ≡ record { said = said; state = ran.end }
   pub wrote : Appends old.written new.written (reply_text said.answers)
   pub stored : IsStored to old.held new.held new.device.medium last
+  pub unit : stored.image.unit ≡ image.unit
   pub fetches : new.images.fetches ≡ raised old.images.fetches
   pub replaces : new.images.replaces ≡ raised old.images.replaces
 
 -- what the words ask for is done
 abbrev pub Does : Form → World → World → Type 0
-Does (of_new name geo) old new = Creates name geo old new
+Does (of_new unit name geo) old new = Creates unit name geo old new
 Does (of_run from to) old new = Completes from to old new
 Does (of_check name) old new = Checks name old new
 Does (of_bench seed count) old new = Benches seed count old new
@@ -117,7 +118,7 @@ IsCaused (Image offset) old new = ⊥
 IsCaused (Layout place) old new = ⊥
 IsCaused (Meta line) old new = ⊥
 
--- `new` came to no end: its line was written as far as told, and all of it where an image was replaced.
+-- `new` or `newbyte` came to no end: its line was written as far as told, and all of it where an image was replaced.
 pub record FailsToCreate (name : List ℕ) (geo : Geometry) (ending : Ending) (old new : World) : Type 0 where
   pub cause : IsUnwritten ending old new
   pub wrote : WritesFront (created_text geo) old.written new.written
@@ -129,11 +130,11 @@ pub record FailsToCreate (name : List ℕ) (geo : Geometry) (ending : Ending) (o
 
 -- `check` came to no end after the image was opened
 pub record FailsToTell (name : List ℕ) (ending : Ending) (old new : World) : Type 0 where
-  pub lines : List LineState
-  pub there : IsHeld name old.held lines
-  pub right : first_finding (medium_of lines) ≡ None
+  pub image : Snapshot
+  pub there : IsHeld All name old.held image
+  pub right : first_finding (medium_of image.lines) ≡ None
   pub cause : IsUnwritten ending old new
-  pub wrote : WritesFront (checked_text lines) old.written new.written
+  pub wrote : WritesFront (checked_text image) old.written new.written
   pub tells : Tells opening old.device.panel new.device.panel
   pub held : KeepsHeld (λ _. ⊤) old.held new.held
   pub counts : CountsOpening old.images new.images
@@ -151,9 +152,9 @@ pub record IsThrough (said : Transcript) (part : List ℕ) (others : List (List 
 -- At `error script` 2^30 bytes of script were taken, at `error read` and `error device` fewer. The device stands for the run's last
 -- state where the source or a write ended it, or for what that settles to where it is the image that was not written.
 pub record Halts (from to : List ℕ) (ending : Ending) (old new : World) : Type 0 where
-  pub lines : List LineState
-  pub there : IsHeld from old.held lines
-  pub right : first_finding (medium_of lines) ≡ None
+  pub image : Snapshot
+  pub there : IsHeld All from old.held image
+  pub right : first_finding (medium_of image.lines) ≡ None
   pub cause : IsCaused ending old new
   pub script : List ℕ
   pub performed : List (List ℕ)
@@ -164,7 +165,7 @@ pub record Halts (from to : List ℕ) (ending : Ending) (old new : World) : Type
   pub read : Consumes old.left new.left script
   pub split : lines_of script ≡ performed ++ others
   pub whole : IsFront (bytes_of performed) script ⊎ IsAtEnd new.left
-  pub run : IsRun (opened lines) old.device.panel performed said end
+  pub run : IsRun (opened image) old.device.panel performed said end
   pub front : IsFront part (reply_text said.answers)
   pub answered : (ending ≡ Read) ⊎ (ending ≡ Script) → IsAnswered script performed said part
   pub long : ending ≡ Script → 1073741824 ≤ length script
@@ -181,9 +182,9 @@ pub record Halts (from to : List ℕ) (ending : Ending) (old new : World) : Type
 
 -- what the words ask for came to no end
 abbrev pub Fails : Form → Ending → World → World → Type 0
-Fails (of_new name geo) ending old new = FailsToCreate name geo ending old new
-Fails (of_run from to) ending old new = FailsToOpen from ending old new ⊎ Halts from to ending old new
-Fails (of_check name) ending old new = FailsToOpen name ending old new ⊎ FailsToTell name ending old new
+Fails (of_new unit name geo) ending old new = FailsToCreate name geo ending old new
+Fails (of_run from to) ending old new = FailsToOpen All from ending old new ⊎ Halts from to ending old new
+Fails (of_check name) ending old new = FailsToOpen All name ending old new ⊎ FailsToTell name ending old new
 Fails (of_bench seed count) ending old new = FailsToStart ending old new ⊎ BreaksOff seed count (IsUnwritten ending old new) old new
 
 -- one or the other

@@ -17,7 +17,6 @@ use Rattle.machine_host.specs.Restarting.{RestartMayLeave}
 use Rattle.recovery.specs.Findings.{first_finding, geometry_told}
 use Rattle.word_log.specs.Mount.{Finding}
 use Rattle.word_log.specs.Mount.Finding.{bad_line}
-use Rattle.program_base.specs.Opening.{snapshot}
 use Rattle.program_base.specs.declared.ending.Ending.{Ending}
 use Rattle.program_base.specs.declared.ending.Ending.TheVariants.{Memory, Write}
 use Rattle.program_base.specs.declared.ending.Ending.TheVariants as endings
@@ -32,47 +31,47 @@ abbrev pub finding_of : List ℕ → Option Finding
 finding_of [] = None
 finding_of (line ∷ lines) = Some (bad_line line)
 
--- What is read in the image again is what a restart leaves of the state that loses nothing. Where a line of metadata is bad, the
--- image tells the lowest one, as it is checked too: `error meta` and its number. Else the image is a right one of these sizes.
-pub record IsReadAgain (lines : List LineState) (h : Machine) : Type 0 where
-  pub found : first_finding (medium_of lines) ≡ finding_of h.bad_meta
-  pub sizes : h.bad_meta ≡ [] → geometry_told (medium_of lines) ≡ h.geometry
-  pub left : RestartMayLeave Lasts (image_of lines) h
+-- What is read in the image again is what a restart leaves of the state that loses nothing, of its unit. Where a line of metadata is
+-- bad, the image tells the lowest one, as it is checked too: `error meta` and its number. Else the image is a right one of these sizes.
+pub record IsReadAgain (image : Snapshot) (h : Machine) : Type 0 where
+  pub found : first_finding (medium_of image.lines) ≡ finding_of h.bad_meta
+  pub sizes : h.bad_meta ≡ [] → geometry_told (medium_of image.lines) ≡ h.geometry
+  pub left : RestartMayLeave Lasts (image_of image.unit image.lines) h
 
 -- All lines of the device are held under the name, as they were last stored, and are read again as the state that it stands for.
 pub record IsStored (name : List ℕ) (old new : Option Held) (m : Medium) (h : Machine) : Type 0 where
-  pub lines : List LineState
-  pub last : IsLastImage m lines
-  pub right : IsSnapshot (snapshot lines)
-  pub holds : Holds name (snapshot lines) old new
-  pub again : IsReadAgain lines h
+  pub image : Snapshot
+  pub last : IsLastImage m image.lines
+  pub right : IsSnapshot image
+  pub holds : Holds name image old new
+  pub again : IsReadAgain image h
 
 -- No name has changed; but after a failed replace nothing is known of this one.
 abbrev pub HoldsOn : List ℕ → Option Held → Option Held → ImageCounts → ImageCounts → Type 0
 HoldsOn name old new counted counts =
     KeepsHeld (λ _. ⊤) old new ⊎ (Rose counted.replace_faults counts.replace_faults × KeepsHeld (λ other. other ≢ name) old new)
 
--- the lines as they were last stored, as an image
-pub record AreLast (m : Medium) (text : List ℕ) : Type 0 where
+-- the lines as they were last stored, as an image of this unit
+pub record AreLast (unit : ℕ) (m : Medium) (text : List ℕ) : Type 0 where
   pub lines : List LineState
   pub last : IsLastImage m lines
-  pub right : IsSnapshot (snapshot lines)
-  pub is : text ≡ image_text (snapshot lines)
+  pub right : IsSnapshot (record { unit = unit; lines = lines })
+  pub is : text ≡ image_text (record { unit = unit; lines = lines })
 
 -- there was no memory, or the device could not be read out
 abbrev pub NotReadOut : Ending → Panel → Panel → Type 0
 NotReadOut ending old new = (ending ≡ Memory) ⊎ ((ending ≡ endings.Device) × Rose old.counts.setups new.counts.setups)
 
 -- The lines of a device were read out, and only written back.
-pub record ReadsOut (result : Result (Stock ℕ) Ending) (old new : Device) : Type 0 where
+pub record ReadsOut (unit : ℕ) (result : Result (Stock ℕ) Ending) (old new : Device) : Type 0 where
   pub end : Outcome
   pub sets_up : SetsUp end old.panel new.panel
   pub power : KeepsPower end old.panel new.panel
   pub wrote : WritesBack old.medium new.medium
-  pub outcome : MatchResult result (λ text. (end ≡ went) × AreLast old.medium text.items) (λ ending. NotReadOut ending old.panel new.panel)
+  pub outcome : MatchResult result (λ text. (end ≡ went) × AreLast unit old.medium text.items) (λ ending. NotReadOut ending old.panel new.panel)
 
 -- They were stored, or what is held is as it was but for a failed replace; they were read out where it was the writing that failed.
-pub record Stores (name : List ℕ) (result : Result (Unit {0}) Ending) (held_old held_new : Option Held) (counted counts : ImageCounts) (old new : Device) : Type 0 where
+pub record Stores (unit : ℕ) (name : List ℕ) (result : Result (Unit {0}) Ending) (held_old held_new : Option Held) (counted counts : ImageCounts) (old new : Device) : Type 0 where
   pub end : Outcome
   pub sets_up : SetsUp end old.panel new.panel
   pub power : KeepsPower end old.panel new.panel
@@ -81,7 +80,7 @@ pub record Stores (name : List ℕ) (result : Result (Unit {0}) Ending) (held_ol
   pub fetch_faults : counts.fetch_faults ≡ counted.fetch_faults
   pub outcome : MatchResult result
       (λ _. (end ≡ went) × (counts.replaces ≡ raised counted.replaces)
-      × (text : List ℕ) × AreLast old.medium text × IfSome held_new (λ look. look name ≡ Some text) × KeepsHeld (λ other. other ≢ name) held_old held_new)
+      × (text : List ℕ) × AreLast unit old.medium text × IfSome held_new (λ look. look name ≡ Some text) × KeepsHeld (λ other. other ≢ name) held_old held_new)
       (λ ending. (NotReadOut ending old.panel new.panel ⊎ ((ending ≡ Write) × (end ≡ went) × Rose counted.replace_faults counts.replace_faults))
       × HoldsOn name held_old held_new counted counts
       × ((counts.replaces ≡ counted.replaces) ⊎ (counts.replaces ≡ raised counted.replaces)))

@@ -58,7 +58,7 @@ fn start<D: LineDevice>(alloc: Global, device: &mut D) -> Result<Host, Ending>
     ensures opens { Opens (D.state device.old).panel (D.state device.new).panel }
 {
     recovery::format(device, SIZES)?;
-    Ok(Host::mount(alloc, device)?)
+    Ok(Host::mount(alloc, device, 8)?)
 }
 
 // Performs all lines, and counts their replies.

@@ -2,6 +2,7 @@
 ghost use Rattle.std.specs.Prelude.{◌≡◌, ◌≢◌, ◌⊎◌, ℕ, List, IfErr, IsErrAnd, map, Option};
 ghost use Rattle.std.specs.String.{string_bytes};
 ghost use Rattle.line_device.specs.Device.{Device as DeviceState};
+ghost use Rattle.line_device.specs.Panel.{IsUnit};
 ghost use Rattle.word_tables.specs.Bounds.{IsValid};
 ghost use Rattle.command_line.specs.Words.{Form as FormOfWords, IsForm};
 ghost use Rattle.command_line.specs.Words.Form.{of_check, of_new, of_run};
@@ -19,6 +20,7 @@ use crate::storing::{fresh_text, store};
 use crate::telling::checked;
 use command_line::{Form, read_words};
 use host_io::{Images, Sink, Source};
+use image_file::{BYTE_UNIT, Units, WORD_UNIT};
 use line_device::LineDevice;
 use program_base::{Ending, numbered, open, tell};
 use std::alloc::Global;
@@ -90,27 +92,32 @@ fn perform<D: LineDevice, F: Images, T: Source, K: Sink>(
         × (script.new ≡ script.old) × (replies.new ≡ replies.old) }
 {
     match read_words(alloc, words)? {
-        Form::New { image, geometry } => create(alloc, image, geometry, images, replies),
+        Form::New { image, geometry } => create(alloc, WORD_UNIT, image, geometry, images, replies),
         Form::Run { from, to } => run(alloc, from, to, device, images, script, replies),
         Form::Check { image } => check(alloc, image, device, images, replies),
         Form::Bench { seed, count } => bench(alloc, seed, count, device, replies),
+        Form::NewByte { image, geometry } => create(
+            alloc, BYTE_UNIT, image, geometry, images, replies,
+        ),
     }
 }
 
 // The line is written before anything is replaced.
 fn create<F: Images, K: Sink>(
     alloc: Global,
+    unit: u64,
     name: &str,
     geometry: Geometry,
     images: &mut F,
     replies: &mut K,
 ) -> Result<(), Ending>
-    requires { IsValid geometry }
-    ensures { (device : DeviceState) (left : Option (List ℕ)) (reads : ℕ) → Outcome (of_new name.now geometry) result
+    requires known { IsUnit unit }
+    requires valid { IsValid geometry }
+    ensures { (device : DeviceState) (left : Option (List ℕ)) (reads : ℕ) → Outcome (of_new unit name.now geometry) result
         (world device (F.held images.old) (F.count images.old) left reads (K.written replies.old) (K.count replies.old))
         (world device (F.held images.new) (F.count images.new) left reads (K.written replies.new) (K.count replies.new)) }
 {
-    let text = fresh_text(alloc, geometry)?;
+    let text = fresh_text(alloc, unit, geometry)?;
     tell(numbered(alloc, b"ok ", geometry.total_lines()), replies)?;
     Ok(images.replace(name, text.as_slice())?)
 }
@@ -128,10 +135,10 @@ fn run<D: LineDevice, F: Images, T: Source, K: Sink>(
         (world (D.state device.old) (F.held images.old) (F.count images.old) (T.left script.old) (T.count script.old) (K.written replies.old) (K.count replies.old))
         (world (D.state device.new) (F.held images.new) (F.count images.new) (T.left script.new) (T.count script.new) (K.written replies.new) (K.count replies.new)) }
 {
-    let mut host = open(alloc, from, device, images)?;
+    let mut host = open(alloc, from, Units::All, device, images)?;
     run_script(alloc, &mut host, device, script, replies)?;
     host.settle(device)?;
-    store(alloc, to, device, images)
+    store(alloc, to, host.unit(), device, images)
 }
 
 fn check<D: LineDevice, F: Images, K: Sink>(
@@ -145,7 +152,7 @@ fn check<D: LineDevice, F: Images, K: Sink>(
         (world (D.state device.old) (F.held images.old) (F.count images.old) left reads (K.written replies.old) (K.count replies.old))
         (world (D.state device.new) (F.held images.new) (F.count images.new) left reads (K.written replies.new) (K.count replies.new)) }
 {
-    let host = open(alloc, name, device, images)?;
+    let host = open(alloc, name, Units::All, device, images)?;
     let bad = host.bad_lines(device);
     Ok(tell(checked(alloc, device.lines(), bad), replies)?)
 }

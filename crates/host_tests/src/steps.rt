@@ -22,7 +22,7 @@ fn set_up(alloc: Global) -> Result<(Host, Plain), Fail>
     };
     let mut device = Plain::new(alloc);
     recovery::format(&mut device, geometry)?;
-    let host = Host::mount(alloc, &mut device)?;
+    let host = Host::mount(alloc, &mut device, 8)?;
     Ok((host, device))
 }
 

@@ -1,24 +1,25 @@
 -- Where bytes are wrong, the first wrong field begins.
-use Rattle.std.proofs.Common.{◌≡◌, ℕ, ◌+◌, ◌^◌, ◌<◌, ◌≤◌, Bool, true, false, nat_eq, List, [], ◌∷◌, ◌++◌, length, take, drop, replicate, Option, Some, None, refl, sym, ap, subst, ◌∙◌, arith, length-append, length-drop}
+use Rattle.std.proofs.Common.{◌≡◌, inl, ℕ, ◌+◌, ◌^◌, ◌<◌, ◌≤◌, Bool, true, false, nat_eq, List, [], ◌∷◌, ◌++◌, length, take, drop, replicate, Option, Some, None, refl, sym, ap, subst, ◌∙◌, arith, length-append, length-drop}
 use Rattle.std.specs.List.{concat, flat_map, starts_with}
 use Rattle.std.proofs.lemmas.List.{take-append-drop, drop-drop}
 use Rattle.std.proofs.lemmas.Slice.Eq.{bytes_eq-Decides}
 use Rattle.byteorder.specs.Endian.{little_number}
 use Rattle.byteorder.specs.Numbers.{little_number-reads_back}
 use Rattle.line_device.specs.declared.line.LineState.TheVariants.{Healthy}
-use Rattle.image_file.specs.Text.{AreFileBytes, FitImage, IsSnapshot, Snapshot, image_head, image_magic, image_text, number_text}
-use Rattle.image_file.specs.WrongField.{field_number, first_wrong_offset}
-use Rattle.image_file.specs.Fields.{IsFirstWrong, image_fields, line_fields}
+use Rattle.image_file.specs.Text.{AreFileBytes, FitImage, IsSnapshot, Snapshot, TakesUnit, image_head, image_magic, image_text, number_text}
+use Rattle.image_file.specs.WrongField.{field_number, first_wrong_offset, unit_number}
+use Rattle.image_file.specs.declared.Units.{Units}
+use Rattle.image_file.specs.Fields.{BeginsImage, IsFirstWrong, image_fields, line_fields}
 use Rattle.image_file.proofs.FieldLemmas.{WrongLines, lines_first, lines_joined}
-use Rattle.image_file.proofs.HeaderLemmas.{field_is, unit_is, count_read, wrong_by}
-use Rattle.image_file.proofs.TextLemmas.{found}
+use Rattle.image_file.proofs.HeaderLemmas.{UnitIs, eight_taken, head_read, taken_known, unit_found, unit_is, wrong_by}
+use Rattle.image_file.proofs.TextLemmas.{found, unit_back, unit_taken}
 
 -- an image of one line of zeros
 abbrev zero_image : Snapshot
 zero_image = record { unit = 8; lines = Healthy (replicate 64 0) ∷ [] }
 
 zero_right : IsSnapshot zero_image
-zero_right = record { unit = refl; count = (omega arith, omega arith); whole = (refl, tt) }
+zero_right = record { unit = inl refl; count = (omega arith, omega arith); whole = (refl, tt) }
 
 -- the first fields of equal rows
 first_same : (a b : List ℕ) (r s : List (List ℕ)) → a ∷ r ≡ b ∷ s → a ≡ b
@@ -27,13 +28,13 @@ first_same a b r s e = cc
 later_same : (a b : List ℕ) (r s : List (List ℕ)) → a ∷ r ≡ b ∷ s → r ≡ s
 later_same a b r s e = cc
 
-wrong_magic : (bytes : List ℕ) → starts_with nat_eq bytes image_magic ≡ false → IsFirstWrong bytes 0
-wrong_magic bytes magic = record {
+wrong_magic : (units : Units) (bytes : List ℕ) → starts_with nat_eq bytes image_magic ≡ false → IsFirstWrong units bytes 0
+wrong_magic units bytes magic = record {
   fields = [];
   rest = bytes;
   parts = refl;
   here = refl;
-  begun = record { m = zero_image; right = zero_right; more = image_fields zero_image; is = refl };
+  begun = record { m = zero_image; right = zero_right; taken = eight_taken units; more = image_fields zero_image; is = refl };
   ended = λ field after e b.
       let same : image_magic ≡ field = first_same _ _ _ _ b.is in
       let is : bytes ≡ image_magic ++ after = e ∙ ap (λ f. f ++ after) (sym same) in
@@ -49,31 +50,44 @@ stands bytes after offset least most n is small above below none =
     let both : None ≡ Some n = sym none ∙ found bytes offset least most n there number above below in
     absurd (cc)
 
-wrong_unit : (bytes : List ℕ) → take 8 bytes ≡ image_magic → field_number bytes 8 8 8 ≡ None → IsFirstWrong bytes 8
-wrong_unit bytes magic none = record {
+wrong_unit : (units : Units) (bytes : List ℕ) → take 8 bytes ≡ image_magic → unit_number units bytes ≡ None → IsFirstWrong units bytes 8
+wrong_unit units bytes magic none = record {
   fields = image_magic ∷ [];
   rest = drop 8 bytes;
   parts = sym (take-append-drop 8 bytes) ∙ ap (λ t. t ++ drop 8 bytes) magic;
   here = refl;
-  begun = record { m = zero_image; right = zero_right; more = drop 1 (image_fields zero_image); is = refl };
+  begun = record { m = zero_image; right = zero_right; taken = eight_taken units; more = drop 1 (image_fields zero_image); is = refl };
   ended = λ field after e b.
       let same : number_text b.m.unit ≡ field = first_same _ _ _ _ (later_same _ _ _ _ b.is) in
-      let is : drop 8 bytes ≡ number_text 8 ++ after = e ∙ ap (λ f. f ++ after) (sym same) ∙ ap (λ u. number_text u ++ after) b.right.unit in
-      stands bytes after 8 8 8 8 is (omega arith) (omega arith) (omega arith) none;
+      let is : drop 8 bytes ≡ number_text b.m.unit ++ after = e ∙ ap (λ f. f ++ after) (sym same) in
+      let long : 16 ≤ length bytes = omega (arith, ap length is, length-append (number_text b.m.unit) after, length-drop 8 bytes) in
+      let number : little_number 8 (drop 8 bytes) ≡ b.m.unit = ap (little_number 8) is ∙ unit_back b.m.unit after b.right.unit in
+      let both : None ≡ Some b.m.unit = sym none ∙ unit_taken units bytes b.m.unit long number b.taken in
+      absurd (cc);
 }
 
-front_is : (bytes : List ℕ) (unit : ℕ) → AreFileBytes bytes → take 8 bytes ≡ image_magic → field_number bytes 8 8 8 ≡ Some unit → bytes ≡ image_magic ++ (number_text 8 ++ drop 16 bytes)
-front_is bytes unit fit magic e8 =
+front_is : (units : Units) (bytes : List ℕ) (unit : ℕ) → AreFileBytes bytes → take 8 bytes ≡ image_magic → UnitIs units bytes unit → bytes ≡ image_magic ++ (number_text unit ++ drop 16 bytes)
+front_is units bytes unit fit magic u =
     sym (take-append-drop 8 bytes) ∙ ap (λ t. t ++ drop 8 bytes) magic
-    ∙ ap (λ t. image_magic ++ t) (sym (take-append-drop 8 (drop 8 bytes)) ∙ ap (λ t. t ++ drop 8 (drop 8 bytes)) (unit_is bytes unit fit (field_is bytes 8 8 8 unit e8)) ∙ ap (λ t. number_text 8 ++ t) (drop-drop 8 8 bytes))
+    ∙ ap (λ t. image_magic ++ t) (sym (take-append-drop 8 (drop 8 bytes)) ∙ ap (λ t. t ++ drop 8 (drop 8 bytes)) (unit_is units bytes unit fit u) ∙ ap (λ t. number_text unit ++ t) (drop-drop 8 8 bytes))
 
-wrong_count : (bytes : List ℕ) (unit : ℕ) → AreFileBytes bytes → take 8 bytes ≡ image_magic → field_number bytes 8 8 8 ≡ Some unit → field_number bytes 16 1 118016 ≡ None → IsFirstWrong bytes 16
-wrong_count bytes unit fit magic e8 none = record {
-  fields = image_magic ∷ number_text 8 ∷ [];
+-- an image of one line of zeros, of a unit that is taken
+begins_with : (units : Units) (unit : ℕ) → TakesUnit units unit → BeginsImage units (image_magic ∷ number_text unit ∷ [])
+begins_with units unit taken = record {
+  m = record { unit = unit; lines = Healthy (replicate 64 0) ∷ [] };
+  right = record { unit = taken_known units unit taken; count = (omega arith, omega arith); whole = (refl, tt) };
+  taken = taken;
+  more = drop 2 (image_fields zero_image);
+  is = refl;
+}
+
+wrong_count : (units : Units) (bytes : List ℕ) (unit : ℕ) → AreFileBytes bytes → take 8 bytes ≡ image_magic → UnitIs units bytes unit → field_number bytes 16 1 118016 ≡ None → IsFirstWrong units bytes 16
+wrong_count units bytes unit fit magic u none = record {
+  fields = image_magic ∷ number_text unit ∷ [];
   rest = drop 16 bytes;
-  parts = front_is bytes unit fit magic e8;
+  parts = front_is units bytes unit fit magic u;
   here = refl;
-  begun = record { m = zero_image; right = zero_right; more = drop 2 (image_fields zero_image); is = refl };
+  begun = begins_with units unit u.taken;
   ended = λ field after e b.
       let count : FitImage (length b.m.lines) = b.right.count in
       let same : number_text (length b.m.lines) ≡ field = first_same _ _ _ _ (later_same _ _ _ _ (later_same _ _ _ _ b.is)) in
@@ -85,17 +99,18 @@ counts_same : (j k : ℕ) → j ≤ 118016 → k ≤ 118016 → number_text j �
 counts_same j k p q e =
     sym (little_number-reads_back 8 j [] (omega (arith, p))) ∙ ap (λ t. little_number 8 (t ++ [])) e ∙ little_number-reads_back 8 k [] (omega (arith, q))
 
-wrong_line : (bytes : List ℕ) (count offset : ℕ) → FitImage count → bytes ≡ image_head 8 count ++ drop 24 bytes → WrongLines count (drop 24 bytes) 24 offset → IsFirstWrong bytes offset
-wrong_line bytes count offset fit is w = record {
-  fields = image_magic ∷ number_text 8 ∷ number_text count ∷ w.fields;
+wrong_line : (units : Units) (bytes : List ℕ) (unit count offset : ℕ) → TakesUnit units unit → FitImage count → bytes ≡ image_head unit count ++ drop 24 bytes → WrongLines count (drop 24 bytes) 24 offset → IsFirstWrong units bytes offset
+wrong_line units bytes unit count offset taken fit is w = record {
+  fields = image_magic ∷ number_text unit ∷ number_text count ∷ w.fields;
   rest = w.rest;
-  parts = is ∙ ap (λ t. image_head 8 count ++ t) w.parts;
-  here = omega (arith, w.here, length-append (image_head 8 count) (concat w.fields));
+  parts = is ∙ ap (λ t. image_head unit count ++ t) w.parts;
+  here = omega (arith, w.here, length-append (image_head unit count) (concat w.fields));
   begun = record {
-    m = record { unit = 8; lines = w.begun.all };
-    right = record { unit = refl; count = rw w.begun.count fit; whole = w.begun.whole };
+    m = record { unit = unit; lines = w.begun.all };
+    right = record { unit = taken_known units unit taken; count = rw w.begun.count fit; whole = w.begun.whole };
+    taken = taken;
     more = w.begun.more;
-    is = ap (λ k. image_magic ∷ number_text 8 ∷ number_text k ∷ flat_map line_fields w.begun.all) w.begun.count ∙ ap (λ t. image_magic ∷ number_text 8 ∷ number_text count ∷ t) w.begun.is;
+    is = ap (λ k. image_magic ∷ number_text unit ∷ number_text k ∷ flat_map line_fields w.begun.all) w.begun.count ∙ ap (λ t. image_magic ∷ number_text unit ∷ number_text count ∷ t) w.begun.is;
   };
   ended = λ field after e b.
       let behind = later_same _ _ _ _ (later_same _ _ _ _ b.is) in
@@ -108,21 +123,21 @@ wrong_line bytes count offset fit is w = record {
       });
 }
 
-pub wrong_is_first : (bytes : List ℕ) (offset : ℕ) → AreFileBytes bytes → first_wrong_offset bytes ≡ Some offset → IsFirstWrong bytes offset
+pub wrong_is_first : (units : Units) (bytes : List ℕ) (offset : ℕ) → AreFileBytes bytes → first_wrong_offset units bytes ≡ Some offset → IsFirstWrong units bytes offset
 unfolding first_wrong_offset
-wrong_is_first bytes offset fit e = go (starts_with nat_eq bytes image_magic) (field_number bytes 8 8 8) (field_number bytes 16 1 118016) refl refl refl e
+wrong_is_first units bytes offset fit e = go (starts_with nat_eq bytes image_magic) (unit_number units bytes) (field_number bytes 16 1 118016) refl refl refl e
   where
     begins : starts_with nat_eq bytes image_magic ≡ true → take 8 bytes ≡ image_magic
     begins p = sym ((bytes_eq-Decides image_magic (take 8 bytes)).0 p)
 
-    go : (magic : Bool) (unit lines : Option ℕ) → starts_with nat_eq bytes image_magic ≡ magic → field_number bytes 8 8 8 ≡ unit → field_number bytes 16 1 118016 ≡ lines
-        → wrong_by magic unit lines bytes ≡ Some offset → IsFirstWrong bytes offset
-    go false unit lines p q r e = let same : 0 ≡ offset = cc in subst (IsFirstWrong bytes) same (wrong_magic bytes p)
-    go true None lines p q r e = let same : 8 ≡ offset = cc in subst (IsFirstWrong bytes) same (wrong_unit bytes (begins p) q)
-    go true (Some u) None p q r e = let same : 16 ≡ offset = cc in subst (IsFirstWrong bytes) same (wrong_count bytes u fit (begins p) q r)
+    go : (magic : Bool) (unit lines : Option ℕ) → starts_with nat_eq bytes image_magic ≡ magic → unit_number units bytes ≡ unit → field_number bytes 16 1 118016 ≡ lines
+        → wrong_by magic unit lines bytes ≡ Some offset → IsFirstWrong units bytes offset
+    go false unit lines p q r e = let same : 0 ≡ offset = cc in subst (IsFirstWrong units bytes) same (wrong_magic units bytes p)
+    go true None lines p q r e = let same : 8 ≡ offset = cc in subst (IsFirstWrong units bytes) same (wrong_unit units bytes (begins p) q)
+    go true (Some u) None p q r e = let same : 16 ≡ offset = cc in subst (IsFirstWrong units bytes) same (wrong_count units bytes u fit (begins p) (unit_found units bytes u q) r)
     go true (Some u) (Some n) p q r e =
-        let read = count_read bytes u n fit p q r in
-        wrong_line bytes n offset read.0 read.2 (lines_first n 24 offset (drop 24 bytes) e)
+        let read = head_read units bytes u n fit p q r in
+        wrong_line units bytes u n offset read.0 read.1 read.3 (lines_first n 24 offset (drop 24 bytes) e)
 
 -- an image's bytes are its fields
 pub fields_joined : (m : Snapshot) → image_text m ≡ concat (image_fields m)

@@ -5,15 +5,18 @@ use Rattle.std.specs.List.{starts_with}
 use Rattle.std.proofs.lemmas.Bool.{cases_lt, leb-true}
 use Rattle.std.proofs.lemmas.Nat.{le_bytes_8}
 use Rattle.std.proofs.lemmas.List.{take-append-drop, length-take, length-drop, drop-drop, get_or-drop, get_or-take, get_or_past}
+use Rattle.line_device.specs.Panel.{IsUnit}
 use Rattle.byteorder.specs.Endian.{little_number}
 use Rattle.byteorder.specs.Numbers.{little_from-take}
-use Rattle.image_file.specs.Text.{AreFileBytes, image_head, image_magic, image_text, line_text, number_text}
-use Rattle.image_file.specs.WrongField.{field_number, first_wrong_offset, wrong_in_lines}
+use Rattle.image_file.specs.declared.Units.{Units}
+use Rattle.image_file.specs.declared.Units.TheVariants.{Words, All}
+use Rattle.image_file.specs.Text.{AreFileBytes, TakesUnit, image_head, image_magic, image_text, line_text, number_text}
+use Rattle.image_file.specs.WrongField.{field_number, first_wrong_offset, unit_number, wrong_in_lines}
 use Rattle.image_file.specs.Laws.{IsSpelled}
 use Rattle.image_file.proofs.LineLemmas.{lines_lined}
 use Rattle.std.specs.List.{flat_map}
-use Rattle.image_file.specs.Results.{ReadsCount}
-use Rattle.std.specs.Option.{is_some, ok_or}
+use Rattle.image_file.specs.Results.{ReadsHead}
+use Rattle.std.specs.Option.{option_or}
 use Rattle.std.proofs.lemmas.Slice.Eq.{bytes_eq-Decides}
 
 fit-drop : (n : ℕ) (bytes : List ℕ) → AreFileBytes bytes → AreFileBytes (drop n bytes)
@@ -52,39 +55,58 @@ field_is bytes offset least most n e = go (nat_le (offset + 8) (length bytes)) (
     go true false c p q r e = absurd (cc)
     go false b c p q r e = absurd (cc)
 
+-- units that are taken are units
+pub taken_known : (units : Units) (unit : ℕ) → TakesUnit units unit → IsUnit unit
+taken_known Words unit taken = inl taken
+taken_known All unit taken = taken
+
+pub eight_taken : (units : Units) → TakesUnit units 8
+eight_taken Words = refl
+eight_taken All = inl refl
+
+-- the unit is in the second eight bytes, and is taken
+pub record UnitIs (units : Units) (bytes : List ℕ) (unit : ℕ) : Type 0 where
+  pub there : 16 ≤ length bytes
+  pub number : little_number 8 (drop 8 bytes) ≡ unit
+  pub taken : TakesUnit units unit
+
+pub unit_found : (units : Units) (bytes : List ℕ) (unit : ℕ) → unit_number units bytes ≡ Some unit → UnitIs units bytes unit
+unit_found Words bytes unit e =
+    let at8 = field_is bytes 8 8 8 unit e in
+    record { there = omega (arith, at8.there); number = at8.number; taken = omega (arith, at8.above, at8.below) }
+unit_found All bytes unit e = go (field_number bytes 8 8 8) refl e
+  where
+    go : (o : Option ℕ) → field_number bytes 8 8 8 ≡ o → option_or o (field_number bytes 8 1 1) ≡ Some unit → UnitIs All bytes unit
+    go None p e =
+        let at8 = field_is bytes 8 1 1 unit e in
+        record { there = omega (arith, at8.there); number = at8.number; taken = inr (omega (arith, at8.above, at8.below)) }
+    go (Some n) p e =
+        let at8 = field_is bytes 8 8 8 unit (p ∙ e) in
+        record { there = omega (arith, at8.there); number = at8.number; taken = inl (omega (arith, at8.above, at8.below)) }
+
 -- the second eight bytes
-pub unit_is : (bytes : List ℕ) (unit : ℕ) → AreFileBytes bytes → FieldIs bytes 8 8 8 unit → take 8 (drop 8 bytes) ≡ number_text 8
-unit_is bytes unit fit at8 =
-    let eight : little_number 8 (drop 8 bytes) ≡ 8 = omega (arith, at8.above, at8.below, at8.number) in
-    number_back (drop 8 bytes) (fit-drop 8 bytes fit) (omega (arith, at8.there, length-drop 8 bytes)) ∙ ap number_text eight
+pub unit_is : (units : Units) (bytes : List ℕ) (unit : ℕ) → AreFileBytes bytes → UnitIs units bytes unit → take 8 (drop 8 bytes) ≡ number_text unit
+unit_is units bytes unit fit u =
+    number_back (drop 8 bytes) (fit-drop 8 bytes fit) (omega (arith, u.there, length-drop 8 bytes)) ∙ ap number_text u.number
 
 -- what the first 24 bytes are
-head_is : (bytes : List ℕ) (unit lines : ℕ) → AreFileBytes bytes → take 8 bytes ≡ image_magic → FieldIs bytes 8 8 8 unit → FieldIs bytes 16 1 118016 lines → bytes ≡ image_head 8 lines ++ drop 24 bytes
-head_is bytes unit lines fit magic at8 at16 =
-    let second : take 8 (drop 8 bytes) ≡ number_text 8 = unit_is bytes unit fit at8 in
+head_is : (units : Units) (bytes : List ℕ) (unit lines : ℕ) → AreFileBytes bytes → take 8 bytes ≡ image_magic → UnitIs units bytes unit → FieldIs bytes 16 1 118016 lines → bytes ≡ image_head unit lines ++ drop 24 bytes
+head_is units bytes unit lines fit magic u at16 =
+    let second : take 8 (drop 8 bytes) ≡ number_text unit = unit_is units bytes unit fit u in
     let third : take 8 (drop 16 bytes) ≡ number_text lines = number_back (drop 16 bytes) (fit-drop 16 bytes fit) (omega (arith, at16.there, length-drop 16 bytes)) ∙ ap number_text at16.number in
     sym (take-append-drop 8 bytes) ∙ ap (λ t. t ++ drop 8 bytes) magic
     ∙ ap (λ t. image_magic ++ t) (sym (take-append-drop 8 (drop 8 bytes)) ∙ ap (λ t. t ++ drop 8 (drop 8 bytes)) second)
-    ∙ ap (λ t. image_magic ++ (number_text 8 ++ t)) (drop-drop 8 8 bytes ∙ sym (take-append-drop 8 (drop 16 bytes)) ∙ ap (λ t. t ++ drop 8 (drop 16 bytes)) third ∙ ap (λ t. number_text lines ++ t) (drop-drop 8 16 bytes))
+    ∙ ap (λ t. image_magic ++ (number_text unit ++ t)) (drop-drop 8 8 bytes ∙ sym (take-append-drop 8 (drop 16 bytes)) ∙ ap (λ t. t ++ drop 8 (drop 16 bytes)) third ∙ ap (λ t. number_text lines ++ t) (drop-drop 8 16 bytes))
 
 -- a right header leaves what is wrong to the lines
-pub count_read : (bytes : List ℕ) (unit lines : ℕ) → AreFileBytes bytes → starts_with nat_eq bytes image_magic ≡ true → field_number bytes 8 8 8 ≡ Some unit → field_number bytes 16 1 118016 ≡ Some lines → ReadsCount bytes (Ok lines)
+pub head_read : (units : Units) (bytes : List ℕ) (unit lines : ℕ) → AreFileBytes bytes → starts_with nat_eq bytes image_magic ≡ true → unit_number units bytes ≡ Some unit → field_number bytes 16 1 118016 ≡ Some lines
+    → ReadsHead units bytes (Ok (unit, lines))
 unfolding first_wrong_offset
-count_read bytes unit lines fit magic e8 e16 =
-    let at8 = field_is bytes 8 8 8 unit e8 in
+head_read units bytes unit lines fit magic e8 e16 =
+    let u = unit_found units bytes unit e8 in
     let at16 = field_is bytes 16 1 118016 lines e16 in
     let same : take 8 bytes ≡ image_magic = sym ((bytes_eq-Decides image_magic (take 8 bytes)).0 magic) in
-    ((at16.above, at16.below), at16.there, head_is bytes unit lines fit same at8 at16, rw (magic, e8, e16) refl)
-
-pub count_wrong : (bytes : List ℕ) (unit : ℕ) → starts_with nat_eq bytes image_magic ≡ true → field_number bytes 8 8 8 ≡ Some unit → field_number bytes 16 1 118016 ≡ None → first_wrong_offset bytes ≡ Some 16
-unfolding first_wrong_offset
-count_wrong bytes unit magic e8 e16 = rw (magic, e8, e16) refl
-
--- what came of the second number
-pub reads_count : (bytes : List ℕ) (o p : Option ℕ) → AreFileBytes bytes → starts_with nat_eq bytes image_magic ≡ true → field_number bytes 8 8 8 ≡ o → is_some o ≡ true → p ≡ field_number bytes 16 1 118016 → ReadsCount bytes (ok_or p 16)
-reads_count bytes None p fit magic e8 some e16 = absurd (cc)
-reads_count bytes (Some unit) None fit magic e8 some e16 = count_wrong bytes unit magic e8 (sym e16)
-reads_count bytes (Some unit) (Some lines) fit magic e8 some e16 = count_read bytes unit lines fit magic e8 (sym e16)
+    (u.taken, (at16.above, at16.below), at16.there, head_is units bytes unit lines fit same u at16, rw (magic, e8, e16) refl)
 
 -- what is wrong, by the three fields before the lines
 abbrev pub wrong_by : Bool → Option ℕ → Option ℕ → List ℕ → Option ℕ
@@ -93,20 +115,21 @@ wrong_by magic unit lines bytes =
     else elim unit [ None ↦ Some 8 | Some u ↦ elim lines [ None ↦ Some 16 | Some n ↦ wrong_in_lines n 24 (drop 24 bytes) ] ]
 
 -- bytes of which nothing is wrong are an image's
-pub spelled : (bytes : List ℕ) → AreFileBytes bytes → first_wrong_offset bytes ≡ None → IsSpelled bytes
+pub spelled : (units : Units) (bytes : List ℕ) → AreFileBytes bytes → first_wrong_offset units bytes ≡ None → IsSpelled units bytes
 unfolding first_wrong_offset image_text
-spelled bytes fit e = go (starts_with nat_eq bytes image_magic) (field_number bytes 8 8 8) (field_number bytes 16 1 118016) refl refl refl e
+spelled units bytes fit e = go (starts_with nat_eq bytes image_magic) (unit_number units bytes) (field_number bytes 16 1 118016) refl refl refl e
   where
-    go : (magic : Bool) (unit lines : Option ℕ) → starts_with nat_eq bytes image_magic ≡ magic → field_number bytes 8 8 8 ≡ unit → field_number bytes 16 1 118016 ≡ lines
-        → wrong_by magic unit lines bytes ≡ None → IsSpelled bytes
+    go : (magic : Bool) (unit lines : Option ℕ) → starts_with nat_eq bytes image_magic ≡ magic → unit_number units bytes ≡ unit → field_number bytes 16 1 118016 ≡ lines
+        → wrong_by magic unit lines bytes ≡ None → IsSpelled units bytes
     go false unit lines p q r e = absurd (cc)
     go true None lines p q r e = absurd (cc)
     go true (Some u) None p q r e = absurd (cc)
     go true (Some u) (Some n) p q r e =
-        let read = count_read bytes u n fit p q r in
+        let read = head_read units bytes u n fit p q r in
         let l = lines_lined n 24 (drop 24 bytes) e in
         record {
-          m = record { unit = 8; lines = l.all };
-          right = record { unit = refl; count = rw l.count read.0; whole = l.whole };
-          is = read.2 ∙ ap (λ t. image_head 8 n ++ t) l.is ∙ ap (λ k. image_head 8 k ++ flat_map line_text l.all) (sym l.count);
+          m = record { unit = u; lines = l.all };
+          right = record { unit = taken_known units u read.0; count = rw l.count read.1; whole = l.whole };
+          taken = read.0;
+          is = read.3 ∙ ap (λ t. image_head u n ++ t) l.is ∙ ap (λ k. image_head u k ++ flat_map line_text l.all) (sym l.count);
         }

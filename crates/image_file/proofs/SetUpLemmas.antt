@@ -1,7 +1,7 @@
 -- Setting up, one piece after another.
-use Rattle.std.proofs.Common.{◌≡◌, ℕ, ◌≤◌, refl, ◌∙◌, arith}
+use Rattle.std.proofs.Common.{◌≡◌, ℕ, ◌≤◌, refl, sym, ◌∙◌, subst, arith}
 use Rattle.nvm_base.specs.Counts.{Rose}
-use Rattle.line_device.specs.Panel.{Panel, Outcome, HasSetupCause, SetsUp, KeepsPower}
+use Rattle.line_device.specs.Panel.{Panel, Outcome, HasSetupCause, SetsUp, KeepsPower, with_unit}
 use Rattle.line_device.specs.Panel.Outcome.{went, failed, lost}
 use Rattle.line_device.proofs.PanelLemmas.{arms_nothing-refl, arms_nothing-trans, same_orders-refl, same_orders-trans}
 
@@ -41,6 +41,10 @@ sets_up_then end p q r x y = record {
   persists = y.persists ∙ x.persists;
   orders = same_orders-trans p q r x.orders y.orders;
 }
+
+-- The first piece may have set another unit.
+pub set_up_then : (end : Outcome) (p q r : Panel) → SetsUp went (with_unit p q.unit) q → SetsUp end q r → SetsUp end (with_unit p r.unit) r
+set_up_then end p q r x y = subst (λ u. SetsUp end (with_unit p u) r) (sym y.orders.unit) (sets_up_then end (with_unit p q.unit) q r x y)
 
 pub keeps_power_then : (end : Outcome) (p q r : Panel) → q.power ≡ p.power → KeepsPower end q r → KeepsPower end p r
 keeps_power_then went p q r before after = after ∙ before

@@ -6,6 +6,7 @@ use Rattle.std.proofs.lemmas.Option.{slice_get-get_or}
 use Rattle.line_device.specs.Word.{word_at}
 use Rattle.line_device.specs.History.{newest, IsIn}
 use Rattle.line_device.specs.Medium.{Medium, IsLine, IsSound, Shows}
+use Rattle.line_device.specs.Panel.{IsUnit}
 use Rattle.line_device.specs.Device.{Depicts}
 use Rattle.line_device.specs.declared.line.LineState.{LineState}
 use Rattle.line_device.specs.declared.line.LineState.TheVariants.{Healthy, Weak, Bad}
@@ -33,8 +34,8 @@ no_mark (Some (Healthy bytes)) bad = refl
 no_mark (Some (Weak bytes)) bad = absurd (false≢true bad)
 no_mark (Some Bad) bad = refl
 
-pub depicted : (lines : List LineState) → Depicts (medium_of lines) (image_of lines)
-depicted lines = record {
+pub depicted : (unit : ℕ) (lines : List LineState) → Depicts (medium_of lines) (image_of unit lines)
+depicted unit lines = record {
   count = refl;
   bad = λ n _. refl;
   weak = λ n _. refl;
@@ -47,7 +48,7 @@ depicted lines = record {
 pub sound : (lines : List LineState) → length lines ≤ 118016 → IsSound (medium_of lines)
 sound lines few = record {
   small = omega (arith, few);
-  last = λ p healthy. subst (λ h. IsIn (newest h) h) (sym ((depicted lines).words p healthy)) (inl refl);
+  last = λ p healthy. subst (λ h. IsIn (newest h) h) (sym ((depicted 8 lines).words p healthy)) (inl refl);
   lost = λ p. no_value (slice_get lines (p / 8)) (p % 8);
   unmarked = λ n. no_mark (slice_get lines n);
 }
@@ -96,8 +97,8 @@ word_shown m p (Healthy bytes) s good = word_in m bytes p s.2
 word_shown m p (Weak bytes) s good = word_in m bytes p s.2
 word_shown m p Bad s good = absurd (false≢true (sym good ∙ s))
 
-pub depicted_last : (m : Medium) (lines : List LineState) → IsSound m → IsLastImage m lines → DepictsLast m (image_of lines)
-depicted_last m lines sound l = record {
+pub depicted_last : (m : Medium) (unit : ℕ) (lines : List LineState) → IsSound m → IsLastImage m lines → DepictsLast m (image_of unit lines)
+depicted_last m unit lines sound l = record {
   count = l.count;
   bad = λ n within.
       let found = there lines n (subst (λ c. n < c) (sym l.count) within) in
@@ -119,9 +120,9 @@ all_image_lines : (lines : List LineState) → ((n : ℕ) (line : LineState) →
 all_image_lines [] each = tt
 all_image_lines (x ∷ lines) each = (each 0 x refl, all_image_lines lines (λ n line is. each (suc n) line is))
 
-pub snapshot_last : (m : Medium) (lines : List LineState) → FitImage m.count → IsLastImage m lines → IsSnapshot (record { unit = 8; lines = lines })
-snapshot_last m lines fit l = record {
-  unit = refl;
+pub snapshot_last : (m : Medium) (unit : ℕ) (lines : List LineState) → IsUnit unit → FitImage m.count → IsLastImage m lines → IsSnapshot (record { unit = unit; lines = lines })
+snapshot_last m unit lines known fit l = record {
+  unit = known;
   count = subst FitImage (sym l.count) fit;
   whole = all_image_lines lines (λ n line is. allowed_shown m n line (l.shows n line is));
 }

@@ -37,12 +37,13 @@ told_values (Some (Healthy bytes)) w = word_at bytes w ∷ []
 told_values (Some (Weak bytes)) w = word_at bytes w ∷ []
 told_values (Some Bad) w = []
 
--- these lines as a device shows them at a restart
-abbrev pub image_of : List LineState → Image
-image_of lines = record {
+-- these lines as a device of this survival unit shows them at a restart
+abbrev pub image_of : ℕ → List LineState → Image
+image_of unit lines = record {
   count = length lines;
   is_bad = λ n. is_told_bad (slice_get lines n);
   is_weak = λ n. is_told_weak (slice_get lines n);
+  unit = unit;
   word = λ p. told_word (slice_get lines (p / 8)) (p % 8);
 }
 

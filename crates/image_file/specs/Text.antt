@@ -2,14 +2,17 @@
 use Rattle.std.specs.Prelude.{◌≡◌, ◌-◌, ◌<◌, ◌≤◌, ℕ, List, [], ◌∷◌, ◌++◌, length, replicate, slice_index, codes}
 use Rattle.std.specs.List.{flat_map, AllByRecursion}
 use Rattle.byteorder.specs.Endian.{little_bytes}
+use Rattle.line_device.specs.Panel.{IsUnit}
 use Rattle.line_device.specs.declared.line.LineState.{LineState}
 use Rattle.line_device.specs.declared.line.LineState.TheVariants.{Healthy, Weak, Bad}
 use Rattle.word_tables.specs.declared.geometry.Geometry.{Geometry}
 use Rattle.word_tables.specs.Layout.{total_lines}
 use Rattle.word_tables.specs.Superblock.{superblock_words}
 use Rattle.image_file.specs.declared.Image.{Image}
+use Rattle.image_file.specs.declared.Units.{Units}
+use Rattle.image_file.specs.declared.Units.TheVariants.{Words, All}
 
--- an image without how much room its list has: the bytes of a word, and the lines
+-- an image without how much room its list has: the survival unit, and the lines
 pub record Snapshot : Type 0 where
   pub unit : ℕ
   pub lines : List LineState
@@ -31,7 +34,7 @@ line_text (Healthy bytes) = 0 ∷ bytes
 line_text (Weak bytes) = 1 ∷ bytes
 line_text Bad = 2 ∷ []
 
--- the fields before the lines: so many bytes to a word, and so many lines
+-- the fields before the lines: the survival unit, and how many lines there are
 abbrev pub image_head : ℕ → ℕ → List ℕ
 image_head unit lines = image_magic ++ number_text unit ++ number_text lines
 
@@ -59,17 +62,22 @@ FitImage lines = (1 ≤ lines) × (lines ≤ 118016)
 
 -- what an image may tell
 pub record IsSnapshot (m : Snapshot) : Type 0 where
-  pub unit : m.unit ≡ 8
+  pub unit : IsUnit m.unit
   pub count : FitImage (length m.lines)
   pub whole : AllByRecursion IsImageLine m.lines
+
+-- the units that a reader takes
+abbrev pub TakesUnit : Units → ℕ → Type 0
+TakesUnit Words unit = unit ≡ 8
+TakesUnit All unit = IsUnit unit
 
 -- the bytes of the first line of a fresh device: the words of its superblock
 abbrev pub superblock_text : Geometry → List ℕ
 superblock_text geo = flat_map number_text (superblock_words geo)
 
--- a fresh device: its superblock, and then zeros
-abbrev pub fresh_snapshot : Geometry → Snapshot
-fresh_snapshot geo = record {
-  unit = 8;
+-- a fresh device of this survival unit: its superblock, and then zeros
+abbrev pub fresh_snapshot : ℕ → Geometry → Snapshot
+fresh_snapshot unit geo = record {
+  unit = unit;
   lines = Healthy (superblock_text geo) ∷ replicate (total_lines geo - 1) (Healthy (replicate 64 0));
 }

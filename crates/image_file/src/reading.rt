@@ -1,11 +1,13 @@
 // Bytes as an image, field by field from the first one on.
 ghost use Rattle.std.specs.Prelude.{◌≡◌, ◌<◌, ◌≤◌, ◌++◌, IfOk, length, MatchOption};
 ghost use Rattle.std.specs.List.{AllByRecursion};
-ghost use Rattle.image_file.specs.Text.{IsOfBytes, IsSnapshot, Snapshot, image_text};
-ghost use Rattle.image_file.specs.WrongField.{field_number};
-ghost use Rattle.image_file.specs.Results.{GivesImage, ReadsCount, ReadsImage, ReadsLine, ReadsLines};
+ghost use Rattle.image_file.specs.Text.{IsOfBytes, IsSnapshot, Snapshot, TakesUnit, image_text};
+ghost use Rattle.image_file.specs.WrongField.{field_number, unit_number};
+ghost use Rattle.image_file.specs.Results.{GivesImage, ReadsHead, ReadsImage, ReadsLine, ReadsLines};
 
-use crate::{BAD, HEALTHY, Image, ImageFault, MAGIC, MOST_LINES, UNIT, WEAK};
+use crate::{
+    BAD, BYTE_UNIT, HEALTHY, Image, ImageFault, MAGIC, MOST_LINES, Units, WEAK, WORD_UNIT,
+};
 use byteorder::{ByteOrder, LittleEndian};
 use line_device::{LineList, LineState};
 use std::alloc::Global;
@@ -13,33 +15,47 @@ use std::alloc::Global;
 // The bytes before the first line.
 const HEADER: usize = 24;
 
-/// The image that the bytes spell. It takes memory for its list of lines alone.
-pub fn read(alloc: Global, bytes: &[u8]) -> Result<Image, ImageFault>
-    ensures image { ReadsImage bytes.now result }
+/// The image that the bytes spell, if its unit is one of these. It takes memory for its list of lines alone.
+pub fn read(alloc: Global, bytes: &[u8], units: Units) -> Result<Image, ImageFault>
+    ensures image { ReadsImage units bytes.now result }
     ensures bytes { IfOk result (λ image. AllByRecursion IsOfBytes image.lines.items) }
-    ensures only { (m : Snapshot) → IsSnapshot m → bytes.now ≡ image_text m → GivesImage m result }
+    ensures only { (m : Snapshot) → IsSnapshot m → TakesUnit units m.unit → bytes.now ≡ image_text m → GivesImage m result }
 {
-    match read_count(bytes) {
-        Ok(count) => {
+    match read_head(bytes, units) {
+        Ok((unit, count)) => {
             let lines = read_lines(alloc, count, bytes)?;
-            Ok(Image { unit: UNIT, lines })
+            Ok(Image { unit, lines })
         }
         Err(offset) => Err(ImageFault::Bad(offset)),
     }
 }
 
-// How many lines the fields before them announce, or the offset of the first wrong one.
+// The unit and how many lines the fields before the lines announce, or the offset of the first wrong one.
 #[tactic(auto, unfolding(crate::specs::WrongField::first_wrong_offset))]
-fn read_count(bytes: &[u8]) -> Result<u64, u64>
-    ensures { ReadsCount bytes.now result }
+fn read_head(bytes: &[u8], units: Units) -> Result<(u64, u64), u64>
+    ensures { ReadsHead units bytes.now result }
 {
     if !bytes.starts_with(MAGIC) {
         return Err(0);
     }
-    if number_at(bytes, 8, UNIT, UNIT).is_none() {
+    let Some(unit) = unit_at(bytes, units) else {
         return Err(8);
+    };
+    let Some(count) = number_at(bytes, 16, 1, MOST_LINES) else {
+        return Err(16);
+    };
+    Ok((unit, count))
+}
+
+// The unit in the eight bytes at offset 8, if the bytes reach so far and it is taken.
+fn unit_at(bytes: &[u8], units: Units) -> Option<u64>
+    ensures { result ≡ unit_number units bytes.now }
+{
+    let word = number_at(bytes, 8, WORD_UNIT, WORD_UNIT);
+    match units {
+        Units::Words => word,
+        Units::All => word.or(number_at(bytes, 8, BYTE_UNIT, BYTE_UNIT)),
     }
-    number_at(bytes, 16, 1, MOST_LINES).ok_or(16)
 }
 
 // The number in the eight bytes at an offset, if these are there and it is within the bounds.

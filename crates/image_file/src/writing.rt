@@ -1,6 +1,7 @@
 // An image as bytes.
 ghost use Rattle.std.specs.Prelude.{◌≡◌, ◌++◌, OnOk, IfOk, length};
 ghost use Rattle.std.specs.List.{AllByRecursion, flat_map};
+ghost use Rattle.line_device.specs.Panel.{IsUnit};
 ghost use Rattle.image_file.specs.Text.{FitImage, IsImageLine, IsSnapshot, image_text, line_text, number_text, snapshot_of};
 
 use crate::{BAD, HEALTHY, Image, MAGIC, WEAK};
@@ -11,7 +12,7 @@ use std::alloc::{AllocError, Global};
 
 /// The image's bytes.
 pub fn write(alloc: Global, image: &Image) -> Result<Bytes, AllocError>
-    requires unit { image.now.unit ≡ 8 }
+    requires unit { IsUnit image.now.unit }
     requires lines { FitImage (length image.now.lines.items) }
     ensures text { IfOk result (λ out. out.items ≡ image_text (snapshot_of image.now)) }
     ensures image { OnOk result (IsSnapshot (snapshot_of image.now)) }

@@ -1,11 +1,11 @@
 -- Work on lines, one piece after another.
 use Rattle.std.proofs.Common.{ℕ, ◌+◌, ◌≤◌, refl, ◌∙◌, arith}
 use Rattle.nvm_base.specs.Counts.{Rose}
-use Rattle.line_device.specs.Panel.{Panel, Outcome, HasCause, SameOrders, ArmsNothing, Runs}
+use Rattle.line_device.specs.Panel.{Panel, Outcome, HasCause, SameOrders, ArmsNothing, Runs, with_unit}
 use Rattle.line_device.specs.Panel.Outcome.{went, failed, lost}
 
 pub same_orders-refl : (p : Panel) → SameOrders p p
-same_orders-refl p = record { offs = refl; arms = refl; evicts = refl; restarts = refl; disarms = refl; starts = refl; last_order = refl; loans = refl }
+same_orders-refl p = record { offs = refl; arms = refl; evicts = refl; restarts = refl; disarms = refl; starts = refl; last_order = refl; unit = refl; loans = refl }
 
 pub same_orders-trans : (p q r : Panel) → SameOrders p q → SameOrders q r → SameOrders p r
 same_orders-trans p q r a b = record {
@@ -16,8 +16,26 @@ same_orders-trans p q r a b = record {
   disarms = b.disarms ∙ a.disarms;
   starts = b.starts ∙ a.starts;
   last_order = b.last_order ∙ a.last_order;
+  unit = b.unit ∙ a.unit;
   loans = b.loans ∙ a.loans;
 }
+
+-- what only orders and restarts change stays, whatever the unit was
+pub same_orders-any_unit : (p q : Panel) → SameOrders p q → SameOrders (with_unit p q.unit) q
+same_orders-any_unit p q a = record {
+  offs = a.offs;
+  arms = a.arms;
+  evicts = a.evicts;
+  restarts = a.restarts;
+  disarms = a.disarms;
+  starts = a.starts;
+  last_order = a.last_order;
+  unit = refl;
+  loans = a.loans;
+}
+
+pub same_orders-then : (p q r : Panel) → SameOrders (with_unit p q.unit) q → SameOrders q r → SameOrders (with_unit p r.unit) r
+same_orders-then p q r a b = same_orders-any_unit (with_unit p q.unit) r (same_orders-trans (with_unit p q.unit) q r a b)
 
 pub arms_nothing-refl : (p : Panel) → ArmsNothing p p
 arms_nothing-refl p = record { cut = λ h. h; fail = λ h. h }

@@ -1,10 +1,10 @@
 -- What a cut may keep of a word: each byte is that byte of one of its values.
-use Rattle.std.proofs.Common.{◌≡◌, ◌⊎◌, ◌↔◌, inl, inr, ◌+◌, ◌/◌, ◌%◌, ◌^◌, ◌<◌, ◌≤◌, ℕ, zero, suc, Bool, List, [], ◌∷◌, refl, sym, ◌∙◌, ap, arith}
+use Rattle.std.proofs.Common.{◌≡◌, ◌⊎◌, ◌↔◌, inl, inr, ◌+◌, ◌/◌, ◌%◌, ◌^◌, ◌<◌, ◌≤◌, ◌==◌, ℕ, zero, suc, Bool, true, false, List, [], ◌∷◌, refl, sym, ◌∙◌, ap, arith}
 use Rattle.std.specs.Int.{byte_at}
 use Rattle.std.proofs.Math.Nat.{div-div-eq-div-mul, div-eq_of_lt, pow-le-pow_right, pow-succ'}
 use Rattle.std.proofs.lemmas.Bool.{cases_lt}
-use Rattle.line_device.specs.History.{IsIn, IsPart, IsTorn, WordWritesBack}
-use Rattle.line_device.proofs.HistoryLemmas.{is_in-one, is_in-part}
+use Rattle.line_device.specs.History.{latest, newest, IsIn, IsPart, IsTorn, MayKeep, may_keep_by, WordWritesBack}
+use Rattle.line_device.proofs.HistoryLemmas.{is_in-latest, is_in-one, is_in-part}
 
 -- a member may be kept
 pub torn-in : (v : ℕ) (h : List ℕ) → IsIn v h → IsTorn v h
@@ -96,3 +96,41 @@ of_eight v h small all eight k =
 pub torn-eight : (v : ℕ) (h : List ℕ) → v < 2 ^ 64 → ((x : ℕ) → IsIn x h → x < 2 ^ 64) → (IsTorn v h ↔ ((k : ℕ) → k < 8 → (x : ℕ) × IsIn x h × (byte_at k v ≡ byte_at k x)))
 unfolding IsTorn
 torn-eight v h small all = (λ torn k _. torn k, of_eight v h small all)
+
+-- a device of any unit may keep a value that a word had, and keeps no more than torn ones
+pub may_keep-in : (unit v : ℕ) (h : List ℕ) → IsIn v h → MayKeep unit v h
+may_keep-in unit v h at = by_unit (unit == 1)
+  where
+    by_unit : (b : Bool) → may_keep_by b v h
+    by_unit true = torn-in v h at
+    by_unit false = at
+
+pub may_keep-torn : (unit v : ℕ) (h : List ℕ) → MayKeep unit v h → IsTorn v h
+may_keep-torn unit v h keeps = by_unit (unit == 1) keeps
+  where
+    by_unit : (b : Bool) → may_keep_by b v h → IsTorn v h
+    by_unit true torn = torn
+    by_unit false at = torn-in v h at
+
+pub may_keep-part : (unit v : ℕ) (part whole : List ℕ) → IsPart part whole → MayKeep unit v part → MayKeep unit v whole
+may_keep-part unit v part whole p keeps = by_unit (unit == 1) keeps
+  where
+    by_unit : (b : Bool) → may_keep_by b v part → may_keep_by b v whole
+    by_unit true torn = torn-part v part whole p torn
+    by_unit false at = is_in-part v part whole p at
+
+-- of a durable word its last value is kept
+pub may_keep-latest : (unit v : ℕ) (h : List ℕ) → MayKeep unit v (latest h) → v ≡ newest h
+may_keep-latest unit v h keeps = torn-only (newest h) v (latest h) (λ x at. is_in-latest x h at) (may_keep-torn unit v (latest h) keeps)
+
+-- and of a word of one value this one
+pub may_keep-one : (unit v x : ℕ) → MayKeep unit v (x ∷ []) → v ≡ x
+may_keep-one unit v x keeps = torn-one x v (may_keep-torn unit v (x ∷ []) keeps)
+
+pub may_keep-only : (unit v w : ℕ) (h : List ℕ) → ((x : ℕ) → IsIn x h → x ≡ v) → MayKeep unit w h → w ≡ v
+may_keep-only unit v w h only keeps = torn-only v w h only (may_keep-torn unit w h keeps)
+
+-- each byte of what is kept is that byte of a value
+pub may_keep-byte : (unit v : ℕ) (h : List ℕ) (k : ℕ) → MayKeep unit v h → (x : ℕ) × IsIn x h × (byte_at k v ≡ byte_at k x)
+unfolding IsTorn
+may_keep-byte unit v h k keeps = may_keep-torn unit v h keeps k

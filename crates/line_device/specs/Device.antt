@@ -39,12 +39,13 @@ pub record Depicts (m : Medium) (image : Image) : Type 0 where
 
 -- the power came back: each word has one of its values, and this start was told
 pub record Restarted (choice : Choice) (old new : Device) (start : Start) : Type 0 where
-  pub lines : Survivors choice old.medium new.medium
+  pub lines : Survivors old.panel.unit choice old.medium new.medium
+  pub unit : start.image.unit ≡ old.panel.unit
   pub asked : start.choice ≡ choice
   pub image : Depicts new.medium start.image
   pub panel : new.panel ≡ after_restart old.panel start
 
 -- the power stays off
 pub record Waited (old new : Device) : Type 0 where
-  pub lines : Waits old.medium new.medium
+  pub lines : Waits old.panel.unit old.medium new.medium
   pub panel : RestartRefused old.panel new.panel

@@ -1,5 +1,5 @@
 -- The values that a word has had since it was last made durable: the first is durable, the last is what a load gives.
-use Rattle.std.specs.Prelude.{◌≡◌, ◌⊎◌, ℕ, Bool, List, [], ◌∷◌, take, IsTrue}
+use Rattle.std.specs.Prelude.{◌≡◌, ◌⊎◌, ◌==◌, ℕ, Bool, true, false, List, [], ◌∷◌, take, IsTrue}
 use Rattle.std.specs.Int.{byte_at}
 
 -- the last value alone
@@ -22,6 +22,15 @@ IsIn v (x ∷ xs) = (v ≡ x) ⊎ IsIn v xs
 -- each byte of v is that byte of one of the values
 unfoldable pub IsTorn : ℕ → List ℕ → Type 0
 IsTorn v history = (k : ℕ) → (x : ℕ) × IsIn x history × (byte_at k v ≡ byte_at k x)
+
+-- what a cut may keep of a word, as a module keeps its bytes independently or not
+abbrev pub may_keep_by : Bool → ℕ → List ℕ → Type 0
+may_keep_by true v history = IsTorn v history
+may_keep_by false v history = IsIn v history
+
+-- what a cut may keep of a word where the survival unit is this: a byte, or else a word
+abbrev pub MayKeep : ℕ → ℕ → List ℕ → Type 0
+MayKeep unit v history = may_keep_by (unit == 1) v history
 
 -- `part` is `whole` with some values left out
 abbrev pub IsPart : List ℕ → List ℕ → Type 0

@@ -1,7 +1,7 @@
 -- The lines of a device, and what calls do to them. A word's place is 8 * line + word.
 use Rattle.std.specs.Prelude.{◌≡◌, ◌↔◌, ◌+◌, ◌*◌, ◌/◌, ◌%◌, ◌<◌, ◌≤◌, ◌^◌, ◌==◌, not, ℕ, Bool, true, false, List, [], ◌∷◌, ◌++◌, ◌⊎◌, length, if◌then◌else◌, nat_lt, IsTrue, take}
 use Rattle.line_device.specs.Word.{word_at, word_over, reaches}
-use Rattle.line_device.specs.History.{latest, newest, IsIn, IsTorn, WordWritesBack}
+use Rattle.line_device.specs.History.{latest, newest, IsIn, IsTorn, MayKeep, WordWritesBack}
 use Rattle.line_device.specs.declared.line.LineState.{LineState}
 use Rattle.line_device.specs.declared.line.LineState.TheVariants.{Healthy, Weak, Bad}
 use Rattle.line_device.specs.declared.line.Choice.{Choice}
@@ -109,28 +109,28 @@ Shows m line (Healthy bytes) = (m.is_bad line ≡ false) × (m.is_weak line ≡ 
 Shows m line (Weak bytes) = (m.is_bad line ≡ false) × (m.is_weak line ≡ true) × IsLine m line bytes
 Shows m line Bad = m.is_bad line ≡ true
 
--- A word after the power came back: one of its values, the last one or in a weak line the first where that was asked for.
-pub record Survives (choice : Choice) (weak : Bool) (old new : List ℕ) (value : ℕ) : Type 0 where
+-- A word after the power came back: what the device's unit may keep of it, the last one or in a weak line the first where that was asked for.
+pub record Survives (unit : ℕ) (choice : Choice) (weak : Bool) (old new : List ℕ) (value : ℕ) : Type 0 where
   pub one : new ≡ value ∷ []
-  pub was : IsIn value old
+  pub was : MayKeep unit value old
   pub last : choice ≡ Lasts → value ≡ newest old
   pub first : choice ≡ Firsts → IsTrue weak → take 1 old ≡ value ∷ []
 
 -- each healthy word has one of its values, and marks stay
-pub record Survivors (choice : Choice) (old new : Medium) : Type 0 where
+pub record Survivors (unit : ℕ) (choice : Choice) (old new : Medium) : Type 0 where
   pub count : new.count ≡ old.count
   pub bad : (n : ℕ) → new.is_bad n ≡ old.is_bad n
   pub weak : (n : ℕ) → new.is_weak n ≡ old.is_weak n
   pub lost : (p : ℕ) → old.history p ≡ [] → new.history p ≡ []
-  pub words : (p : ℕ) → IsHealthy old (p / 8) → (value : ℕ) × Survives choice (old.is_weak (p / 8)) (old.history p) (new.history p) value
+  pub words : (p : ℕ) → IsHealthy old (p / 8) → (value : ℕ) × Survives unit choice (old.is_weak (p / 8)) (old.history p) (new.history p) value
 
 -- what a restart that was refused may leave of a word: its values, or one of them
-pub record Waits (old new : Medium) : Type 0 where
+pub record Waits (unit : ℕ) (old new : Medium) : Type 0 where
   pub count : new.count ≡ old.count
   pub bad : (n : ℕ) → new.is_bad n ≡ old.is_bad n
   pub weak : (n : ℕ) → new.is_weak n ≡ old.is_weak n
   pub words : (p : ℕ) → WordWritesBack (old.is_weak (p / 8)) (old.history p) (new.history p)
-      ⊎ ((value : ℕ) × IsIn value (old.history p) × (new.history p ≡ value ∷ []))
+      ⊎ ((value : ℕ) × MayKeep unit value (old.history p) × (new.history p ≡ value ∷ []))
 
 -- what an effect may leave of the lines, is also what it may leave of lines that were written back before it
 abbrev pub IsBetweenWriteBacks : (Medium → Medium) → Type 0

@@ -1,5 +1,5 @@
 -- What a device shows beside its lines: the power, what is armed, its counts, and what it tells of orders and restarts.
-use Rattle.std.specs.Prelude.{◌≡◌, ◌+◌, ◌≤◌, ℕ, Bool, true, false, List, [], ◌∷◌, ◌++◌, Option, Some, option_map, Result, Ok, Err, IsTrue}
+use Rattle.std.specs.Prelude.{◌≡◌, ◌⊎◌, ◌+◌, ◌≤◌, ℕ, Bool, true, false, List, [], ◌∷◌, ◌++◌, Option, Some, option_map, Result, Ok, Err, IsTrue}
 use Rattle.std.specs.Borrow.{GName}
 use Rattle.nvm_base.specs.Counts.{raised, Rose}
 use Rattle.nvm_base.specs.declared.units.Span.{Span}
@@ -19,6 +19,7 @@ pub record Image : Type 0 where
   pub count : ℕ
   pub is_bad : ℕ → Bool
   pub is_weak : ℕ → Bool
+  pub unit : ℕ
   pub word : ℕ → ℕ
 
 -- a restart: what was asked for, and what it left
@@ -40,6 +41,7 @@ pub record Panel : Type 0 where
   pub counts : Counts
   pub starts : Option (List Start)
   pub last_order : Option (Option Order)
+  pub unit : ℕ
   pub loans : List Loan
 
 -- the starts told so far, and then these
@@ -80,6 +82,7 @@ pub record SameOrders (old new : Panel) : Type 0 where
   pub disarms : new.counts.disarms ≡ old.counts.disarms
   pub starts : new.starts ≡ old.starts
   pub last_order : new.last_order ≡ old.last_order
+  pub unit : new.unit ≡ old.unit
   pub loans : new.loans ≡ old.loans
 
 -- No call arms by itself.
@@ -129,6 +132,14 @@ KeepsPower lost old new = Unit {0}
 abbrev pub ordered : Option (Option Order) → Order → Option (Option Order)
 ordered before order = option_map (λ _. Some order) before
 
+-- survival units: a cut keeps or loses a word whole, or each of its bytes independently
+abbrev pub IsUnit : ℕ → Type 0
+IsUnit unit = (unit ≡ 8) ⊎ (unit ≡ 1)
+
+-- the panel of a device that was made one of another unit
+abbrev pub with_unit : Panel → ℕ → Panel
+with_unit p unit = record p { unit = unit }
+
 -- the panel after each order
 abbrev pub after_arm_cut : Panel → ℕ → Panel
 after_arm_cut p calls =
@@ -162,4 +173,5 @@ pub record RestartRefused (old new : Panel) : Type 0 where
   pub counts : new.counts ≡ record old.counts { restarts = new.counts.restarts }
   pub starts : new.starts ≡ old.starts
   pub last_order : new.last_order ≡ old.last_order
+  pub unit : new.unit ≡ old.unit
   pub loans : new.loans ≡ old.loans

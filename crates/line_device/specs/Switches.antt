@@ -19,6 +19,7 @@ panel_of s = record {
   counts = s.counts;
   starts = None;
   last_order = None;
+  unit = s.unit;
   loans = [];
 }
 
@@ -50,6 +51,7 @@ after_call s = record {
   cut = counted_down s.cut;
   fail = fail_after s.cut s.fail;
   counts = counts_after (end_of s) s.counts;
+  unit = s.unit;
 }
 
 -- after what only counts a persist, or an order to write back
@@ -59,9 +61,9 @@ switches_after_persist s = record s { counts = record s.counts { persists = rais
 abbrev pub switches_after_evict : Switches → Switches
 switches_after_evict s = record s { counts = record s.counts { evicts = raised s.counts.evicts } }
 
--- with the power on
-abbrev pub powered : Switches → Switches
-powered s = record s { power = true }
+-- with the power on, and this unit
+abbrev pub powered : ℕ → Switches → Switches
+powered unit s = record s { power = true; unit = unit }
 
 -- after a restart
 abbrev pub switches_after_restart : Switches → Switches

@@ -1,7 +1,7 @@
 // The calls that set a device up and take it through power cuts.
 ghost use Rattle.std.specs.Prelude.{◌≡◌, ◌<◌, ◌≤◌, ℕ, true, false, IsTrue, IsErr, IfOk, OnOk, MatchResult};
 ghost use Rattle.line_device.specs.Medium.{WritesBack, Shows, installed, zeros};
-ghost use Rattle.line_device.specs.Panel.{Start, SetsUp, KeepsPower, outcome, after_arm_cut, after_arm_fail, after_evict, after_disarm, after_power_off};
+ghost use Rattle.line_device.specs.Panel.{Start, SetsUp, KeepsPower, outcome, with_unit, after_arm_cut, after_arm_fail, after_evict, after_disarm, after_power_off, IsUnit};
 ghost use Rattle.line_device.specs.Device.{Restarted, Waited, setup_outcome};
 ghost use Rattle.line_device.specs.declared.fault.DeviceFault.TheVariants.{Poisoned};
 
@@ -11,15 +11,16 @@ use std::alloc::AllocError;
 
 pub trait LineDevice: Lines {
     /// Makes the device one of a number of lines of zeros, with the power on. After a refusal nothing is known of its lines.
-    /// `unit` is how many bytes of a word a cut keeps or loses together: 8.
+    /// `unit` is how many bytes of a word a cut keeps or loses together: 8 or 1.
     fn reset(&mut self, lines: u64, unit: u64) -> Result<(), ResetFault>
         requires some { 1 ≤ lines }
         requires few { lines ≤ 118016 }
-        requires words { unit ≡ 8 }
+        requires known { IsUnit unit }
         ensures lines { OnOk result (WritesBack (zeros lines) (Self.state self.new).medium) }
         ensures on { OnOk result (IsTrue (Self.state self.new).panel.power) }
         ensures stays_on { IsTrue (Self.state self.old).panel.power → IsTrue (Self.state self.new).panel.power }
-        ensures sets_up { SetsUp (setup_outcome result) (Self.state self.old).panel (Self.state self.new).panel };
+        ensures unit { OnOk result ((Self.state self.new).panel.unit ≡ unit) }
+        ensures sets_up { SetsUp (setup_outcome result) (with_unit (Self.state self.old).panel (Self.state self.new).panel.unit) (Self.state self.new).panel };
 
     /// Makes a line the given line, durably. After a refusal nothing is known of the lines.
     fn install(&mut self, line: LineNo, told: &LineState) -> Result<(), ResetFault>
@@ -87,4 +88,8 @@ pub trait Peek: LineDevice {
     fn peek(&self, line: LineNo) -> LineState
         requires { line.0 < (Self.state self.now).medium.count }
         ensures { Shows (Self.state self.now).medium line.0 result };
+
+    /// How many bytes of a word a cut keeps or loses together.
+    fn unit(&self) -> u64
+        ensures { result ≡ (Self.state self.now).panel.unit };
 }

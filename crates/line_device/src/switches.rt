@@ -15,6 +15,8 @@ pub struct Switches {
     cut: Option<u64>,
     fail: Option<u64>,
     counts: Counts,
+    /// How many bytes of a word a cut keeps or loses together.
+    unit: u64,
 }
 
 impl Switches {
@@ -122,11 +124,18 @@ impl Switches {
         raise(&mut self.counts.offs);
     }
 
-    /// Turns the power on. Only a restart counts as one.
-    pub fn power_on(&mut self)
-        ensures { self.new ≡ powered self.old }
+    pub fn unit(&self) -> u64
+        ensures { result ≡ (panel_of self.now).unit }
+    {
+        self.unit
+    }
+
+    /// Turns the power on, for a device of this unit. Only a restart counts as one.
+    pub fn power_on(&mut self, unit: u64)
+        ensures { self.new ≡ powered unit self.old }
     {
         self.power = true;
+        self.unit = unit;
     }
 
     pub fn restart(&mut self)

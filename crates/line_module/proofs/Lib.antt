@@ -5,6 +5,7 @@ pub mod HeldLemmas
 pub mod ChangeLemmas
 pub mod PutOverLemmas
 pub mod WayLemmas
+pub mod MixedLemmas
 pub mod RestartLemmas
 pub mod NewLemmas
 pub mod MemoryLemmas

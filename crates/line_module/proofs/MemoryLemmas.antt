@@ -1,7 +1,6 @@
 -- What a module does is what a device may do.
-use Rattle.std.proofs.Common.{◌≡◌, inl, inr, ℕ, zero, suc, Bool, true, false, ◌/◌, ◌%◌, ◌<◌, ◌==◌, List, [], ◌∷◌, ◌++◌, length, get_or, take, drop, nat_lt, if◌then◌else◌, refl, sym, ◌∙◌, ap, subst, arith}
+use Rattle.std.proofs.Common.{◌≡◌, inl, inr, ℕ, zero, suc, Bool, true, false, ◌/◌, ◌%◌, ◌==◌, List, [], ◌∷◌, ◌++◌, length, take, drop, nat_lt, if◌then◌else◌, refl, sym, ◌∙◌, ap, subst}
 use Rattle.std.specs.Prelude.{Option, Some, None, slice_get}
-use Rattle.std.proofs.lemmas.Nat.{mod_below}
 use Rattle.line_device.specs.Word.{word_over, reaches}
 use Rattle.line_device.specs.History.{newest, IsIn, IsPart, WordWritesBack}
 use Rattle.line_device.specs.Medium.{Medium, WritesBack, IsSound, Survives, Survivors, on_line, word_stored, stored}
@@ -10,7 +9,7 @@ use Rattle.line_device.specs.declared.line.Choice.TheVariants.{Firsts, Lasts, Se
 use Rattle.line_device.proofs.HistoryLemmas.{is_part-refl, latest-push, word_write_back-refl}
 use Rattle.line_device.proofs.WriteBackLemmas.{write_back-refl, write_back_same, write_back-trans, write_back-stored, writes_back-flushed}
 use Rattle.line_device.proofs.RestartLemmas.{survivors-kept}
-use Rattle.line_module.specs.Survivors.{drawn, survivor_index, survivor_of}
+use Rattle.line_module.specs.Survivors.{drawn_word, survivor_of}
 use Rattle.line_module.specs.Memory.{Memory, has, without, one_more, word_put, put_over, with_back, in_the_way, written_back, memory_after_store, memory_after_evict, memory_after_restart}
 use Rattle.line_module.specs.Chains.{is_weak_state, is_listed}
 use Rattle.line_module.specs.Cells.{cells_medium, memory_in}
@@ -21,7 +20,8 @@ use Rattle.line_module.specs.declared.cells.Cells.{Cells}
 use Rattle.line_module.proofs.WordsLemmas.{true_is_not_false}
 use Rattle.line_module.proofs.OrderLemmas.{has_first, has-without_less}
 use Rattle.line_module.proofs.WayLemmas.{in_the_way-is, in_the_way-strong}
-use Rattle.line_module.proofs.RestartLemmas.{take_one, survivor-none}
+use Rattle.line_module.proofs.MixedLemmas.{drawn-kept}
+use Rattle.line_module.proofs.RestartLemmas.{survivor-none}
 
 is_part-later : (y : ℕ) (xs : List ℕ) → IsPart xs (y ∷ xs)
 is_part-later y [] = tt
@@ -103,29 +103,21 @@ write_back-memory_evict s (suc n) strong = decide (slice_get s.order 0) refl (λ
         (writes_back-flushed s.medium line (strong line (has_first line s.order is)))
         (rest (written_back s line) (λ m there. still line m (has m s.order) refl there))
 
-is_in-at : (h : List ℕ) (i : ℕ) → i < length h → IsIn (get_or h i 0) h
-is_in-at [] i within = absurd (omega arith)
-is_in-at (x ∷ xs) zero within = inl refl
-is_in-at (x ∷ xs) (suc i) within = inr (is_in-at xs i (omega arith))
+survives-seed : (unit seed place : ℕ) (weak : Bool) (h : List ℕ) → IsIn (newest h) h → (value : ℕ) × Survives unit (Seed seed) weak h (survivor_of unit (Seed seed) place h) value
+survives-seed unit seed place weak [] some = absurd some
+survives-seed unit seed place weak (first ∷ h) some =
+    (drawn_word (unit == 1) seed place first h, record { one = refl; was = drawn-kept unit seed place first h; last = λ is. cc; first = λ is _. cc })
 
-survives-seed : (seed place : ℕ) (weak : Bool) (h : List ℕ) → IsIn (newest h) h → (value : ℕ) × Survives (Seed seed) weak h (survivor_of (Seed seed) place h) value
-survives-seed seed place weak [] some = absurd some
-survives-seed seed place weak (x ∷ xs) some =
-    let h = x ∷ xs in
-    let i = survivor_index seed place (length h) in
-    let below : i < length h = mod_below (drawn seed place) (length h) (omega arith) in
-    (get_or h i 0, record { one = take_one h i 0 below; was = is_in-at h i below; last = λ is. cc; first = λ is _. cc })
-
--- each word keeps one of its values
-pub survivors-memory : (choice : Choice) (s : Memory) → IsSound s.medium → Survivors choice s.medium (memory_after_restart s choice).medium
-survivors-memory Firsts s sound = survivors-kept Firsts s.medium sound
-survivors-memory Lasts s sound = survivors-kept Lasts s.medium sound
-survivors-memory (Seed seed) s sound = record {
+-- each word keeps one value
+pub survivors-memory : (unit : ℕ) (choice : Choice) (s : Memory) → IsSound s.medium → Survivors unit choice s.medium (memory_after_restart unit s choice).medium
+survivors-memory unit Firsts s sound = survivors-kept unit Firsts s.medium sound
+survivors-memory unit Lasts s sound = survivors-kept unit Lasts s.medium sound
+survivors-memory unit (Seed seed) s sound = record {
   count = refl;
   bad = λ n. refl;
   weak = λ n. refl;
-  lost = λ p none. ap (survivor_of (Seed seed) p) none ∙ survivor-none (Seed seed) p;
-  words = λ p healthy. survives-seed seed p (s.medium.is_weak (p / 8)) (s.medium.history p) (sound.last p healthy);
+  lost = λ p none. ap (survivor_of unit (Seed seed) p) none ∙ survivor-none unit (Seed seed) p;
+  words = λ p healthy. survives-seed unit seed p (s.medium.is_weak (p / 8)) (s.medium.history p) (sound.last p healthy);
 }
 
 -- the same cells, the same lines

@@ -102,16 +102,16 @@ abbrev pub memory_after_evict : Memory → ℕ → Memory
 memory_after_evict s zero = s
 memory_after_evict s (suc n) = memory_after_evict (with_back s (slice_get s.order 0)) n
 
--- each word of a line keeps one of its values
-abbrev pub with_survivors : Memory → ℕ → Choice → Memory
-with_survivors s line choice = record {
-  medium = record s.medium { history = on_line line (λ w h. survivor_of choice (8 * line + w) h) s.medium.history };
+-- each word of a line keeps one value
+abbrev pub with_survivors : ℕ → Memory → ℕ → Choice → Memory
+with_survivors unit s line choice = record {
+  medium = record s.medium { history = on_line line (λ w h. survivor_of unit choice (8 * line + w) h) s.medium.history };
   order = without line s.order;
 }
 
--- each word keeps one of its values, so that no line is dirty
-abbrev pub memory_after_restart : Memory → Choice → Memory
-memory_after_restart s choice = record {
-  medium = record s.medium { history = λ p. survivor_of choice p (s.medium.history p) };
+-- each word keeps one value, so that no line is dirty
+abbrev pub memory_after_restart : ℕ → Memory → Choice → Memory
+memory_after_restart unit s choice = record {
+  medium = record s.medium { history = λ p. survivor_of unit choice p (s.medium.history p) };
   order = [];
 }

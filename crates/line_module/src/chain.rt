@@ -3,7 +3,7 @@ ghost use Rattle.std.specs.Vec.{vec_len};
 
 use crate::survivor;
 use arrayvec::ArrayVec;
-use line_device::word_in;
+use line_device::{word_bytes, word_in};
 use std::alloc::{AllocError, Global};
 
 /// How many values of a word a chain has room for, beside the durable one.
@@ -17,12 +17,11 @@ pub struct Chain {
 }
 
 impl Chain {
-    ghost use Rattle.std.specs.Prelude.{◌≡◌, ◌+◌, ◌<◌, ◌≤◌, ◌∷◌, [], ℕ, length, IfOk, if◌then◌else◌};
+    ghost use Rattle.std.specs.Prelude.{◌≡◌, ◌==◌, ◌+◌, ◌*◌, ◌^◌, ◌<◌, ◌≤◌, ◌∷◌, [], ℕ, length, IfOk, if◌then◌else◌};
     ghost use Rattle.line_device.specs.Word.{word_at, reaches};
     ghost use Rattle.line_module.specs.Chains.{values_in, IsEmptyChain, grown_word};
     ghost use Rattle.line_module.specs.Memory.{one_more, is_full_at};
-    ghost use Rattle.line_module.specs.Survivors.{survivor_of};
-    ghost use Rattle.line_device.specs.declared.line.Choice.TheVariants.{Seed};
+    ghost use Rattle.line_module.specs.Survivors.{drawn_value, drawn_word, mixed_word};
 
     pub fn new(alloc: Global) -> Result<Chain, AllocError>
         ensures { IfOk result IsEmptyChain }
@@ -67,10 +66,37 @@ impl Chain {
         }
     }
 
-    /// The value that a word keeps by a seed, where this one is durable.
-    pub fn survivor(&self, seed: u64, place: u64, w: u64, first: u64) -> u64
+    /// What a word keeps by a seed in a module of this survival unit, where this value is durable.
+    pub fn survivor(&self, unit: u64, seed: u64, place: u64, w: u64, first: u64) -> u64
+        requires word { w < 8 }
+        requires small { place < 2 ^ 60 }
+        ensures { result ≡ drawn_word (unit == 1) seed place first (values_in self.now w) }
+    {
+        if unit == 1 {
+            self.mixed(seed, place, w, first)
+        } else {
+            self.drawn(seed, place, w, first)
+        }
+    }
+
+    // Each byte is that of the value which is drawn for the byte's own place.
+    fn mixed(&self, seed: u64, place: u64, w: u64, first: u64) -> u64
+        requires word { w < 8 }
+        requires small { place < 2 ^ 60 }
+        ensures { result ≡ mixed_word (λ b. drawn_value seed (8 * place + b) (first ∷ values_in self.now w)) first }
+    {
+        let mut bytes = [0; 8];
+        for b in 0..8_u64 {
+            let value = self.drawn(seed, 8 * place + b, w, first);
+            bytes[b as usize] = word_bytes(value)[b as usize];
+        }
+        word_in(&bytes, 0)
+    }
+
+    // The value of a word that is drawn for a place.
+    fn drawn(&self, seed: u64, place: u64, w: u64, first: u64) -> u64
         requires { w < 8 }
-        ensures { survivor_of (Seed seed) place (first ∷ values_in self.now w) ≡ result ∷ [] }
+        ensures { result ≡ drawn_value seed place (first ∷ values_in self.now w) }
     {
         let values = self.words[w as usize].as_slice();
         let index = survivor(seed, place, values.len() as u64 + 1);

@@ -11,8 +11,8 @@ mod state;
 mod survivors;
 
 pub use laws::{
-    a_bad_line_is_bare, only_the_oldest_lines_are_written_back, survivors_of_three_words,
-    the_order_lists_the_dirty_lines,
+    a_bad_line_is_bare, only_the_oldest_lines_are_written_back, survivors_of_eight_bytes,
+    survivors_of_three_words, the_order_lists_the_dirty_lines,
 };
 pub use module::Module;
 pub use survivors::survivor;

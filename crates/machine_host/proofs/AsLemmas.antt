@@ -50,6 +50,7 @@ module _ (h : Machine) (a b : Action) (alike : IsAs h a b) (answer : Answer) (ho
     stands_as : Stands host new next → Stands host new again
     stands_as stands = record {
       geometry = stands.geometry;
+      unit = stands.unit;
       mode = stands.mode;
       blocks = stands.blocks;
       volume = stands.volume;
@@ -57,6 +58,7 @@ module _ (h : Machine) (a b : Action) (alike : IsAs h a b) (answer : Answer) (ho
       mappings = stands.mappings;
       events = stands.events;
       device = record {
+        unit = stands.device.unit;
         metadata = stands.device.metadata;
         blocks = λ good.
             each_reads-then next.geometry new.medium (MayLeaveBlocks next.interrupted next.blocks) (MayLeaveBlocks (Some b) next.blocks)

@@ -15,8 +15,8 @@ use Rattle.pm_volume.specs.Presence.{presence_read, presence_words}
 use Rattle.pm_volume.proofs.AreaLemmas.{area_in_metadata}
 use Rattle.pm_volume.proofs.StandingLemmas.{each_pages-then, line_of_volume, presence_read-replays, reads_same}
 use Rattle.std.proofs.lemmas.List.{length-map}
-use Rattle.line_device.specs.History.{IsIn, IsTorn}
-use Rattle.line_device.proofs.TornLemmas.{torn-in, torn-one}
+use Rattle.line_device.specs.History.{IsTorn, MayKeep}
+use Rattle.line_device.proofs.TornLemmas.{may_keep-torn, torn-one}
 use Rattle.word_log.specs.Replay.{Replays}
 use Rattle.word_log.specs.Rest.{IsImageOn}
 use Rattle.word_tables.specs.Layout.{volume_line}
@@ -39,19 +39,19 @@ use Rattle.machine_host.proofs.MountLemmas.{IsTold, is_told, nothing_wrong_there
 module _ (h : Machine) (choice : Choice) (old mid : Medium) (image : Image) (was : IsGood h.geometry old)
     (blocks_were : EachReads h.geometry old (MayLeaveBlocks h.interrupted h.blocks)) (volume_was : EachReadsPages h.geometry old (MayLeaveVolume h.geometry h.interrupted h.volume))
     (files_were : EachReadsFiles h.geometry old (MayLeaveFiles h.mappings h.interrupted h.files))
-    (left : Survivors choice old mid) (shows : Depicts mid image) (sound_old : IsSound old) (sound : IsSound mid) where
+    (left : Survivors image.unit choice old mid) (shows : Depicts mid image) (sound_old : IsSound old) (sound : IsSound mid) where
   abbrev geo : Geometry
   geo = h.geometry
 
   pub layout_back : IsGood geo mid
-  layout_back = is_good (layout-restarted geo old mid was.layout choice sound_old left) (λ n below. left.bad n ∙ was.good n below)
+  layout_back = is_good (layout-restarted geo old mid was.layout image.unit choice sound_old left) (λ n below. left.bad n ∙ was.good n below)
 
   pub told_back : IsTold geo mid
   told_back = is_told geo mid layout_back sound
 
   pub readable_back : AreReadable geo mid
   readable_back =
-      each_reads-restarted geo was.valid choice old mid (λ _. Unit {0}) sound_old was.lines left
+      each_reads-restarted geo was.valid image.unit choice old mid (λ _. Unit {0}) sound_old was.lines left
       (each_reads-then geo old (MayLeaveBlocks h.interrupted h.blocks) (λ _. Unit {0}) (λ bs x. tt) blocks_were)
 
   -- the start is an image of what was before
@@ -62,7 +62,7 @@ module _ (h : Machine) (choice : Choice) (old mid : Medium) (image : Image) (was
       let back : IsHealthy mid (p / 8) = (subst (λ c. p / 8 < c) (sym left.count) on, left.bad (p / 8) ∙ healthy.1) in
       let word = left.words p healthy in
       let same : image.word p ≡ word.0 = cc (word.1.one, shows.words p back) in
-      torn-in (image.word p) (old.history p) (subst (λ v. IsIn v (old.history p)) (sym same) word.1.was)
+      may_keep-torn image.unit (image.word p) (old.history p) (subst (λ v. MayKeep image.unit v (old.history p)) (sym same) word.1.was)
 
   -- and the only one of what is after
   start_is : (word : ℕ → ℕ) → IsImageOn (volume_area geo) mid word → (p : ℕ) → IsOf (volume_area geo) p → word p ≡ image.word p
@@ -118,7 +118,7 @@ module _ (h : Machine) (choice : Choice) (old mid : Medium) (image : Image) (was
   -- and they are what a restart may leave
   pub kept_back : MayLeaveStorage choice image h
   kept_back = record {
-    blocks = blocks_read-restarted geo was.valid choice old mid image (MayLeaveBlocks h.interrupted h.blocks) was.lines left shows blocks_were;
+    blocks = blocks_read-restarted geo was.valid image.unit choice old mid image (MayLeaveBlocks h.interrupted h.blocks) was.lines left shows blocks_were;
     left = pages_were.pages;
     may = pages_were.is;
     there = sym there_is;

@@ -1,5 +1,6 @@
 -- What a call on a part of storage comes to, by what its fault tells.
 use Rattle.std.proofs.Common.{◌≡◌, ◌≢◌, ℕ, ◌≤◌, Bool, true, false, Option, Some, None, option_map, Result, Ok, Err, OnOk, [], refl, sym, ap, subst, ◌∙◌, arith}
+use Rattle.word_tables.specs.declared.geometry.Geometry.{Geometry}
 use Rattle.line_device.specs.Panel.{Runs}
 use Rattle.line_device.specs.Device.{Device}
 use Rattle.line_words.specs.declared.interruption.Interruption.TheVariants.{Failed, PowerLost}
@@ -20,7 +21,7 @@ use Rattle.block_device.specs.Images.{AreReadable}
 use Rattle.machine_host.specs.Lines.{HasLayout}
 use Rattle.machine_model.specs.Lines.{bad_metadata}
 use Rattle.machine_model.specs.Run.{answered}
-use Rattle.machine_host.specs.Stands.{HostState, HostServes, Stands, AreMounted, Comes, is_powered}
+use Rattle.machine_host.specs.Stands.{HostState, HostServes, Stands, AreMounted, Comes, is_powered, medium_of}
 use Rattle.machine_host.proofs.StepLemmas.{DeviceLeft, comes_of_done, comes_of_interruption}
 use Rattle.machine_host.proofs.TellingLemmas.{never_on, never_stops, tells_nothing}
 
@@ -66,7 +67,7 @@ printable_after says answer part good printable (Err f) = printable_told answer 
 
 -- Whatever the call, `after` is the host in a mode once the part is as the call left it.
 module _ {E R : Type 0} (says : E → Told R) (answer : R → Answer) (part : IsPart says answer) (host : HostState) (after : Mode → HostState) (old new : Device) (on : host.mode ≡ On)
-    (same : (m : Mode) → (after m).geometry ≡ host.geometry) (in_mode : (m : Mode) → (after m).mode ≡ m) (calls persists : ℕ) where
+    (same : (m : Mode) → medium_of (after m) ≡ medium_of host) (in_mode : (m : Mode) → (after m).mode ≡ m) (calls persists : ℕ) where
   -- what it is answered, and what comes of it
   pub comes_of_call : (action : Action) (h : Machine) → Stands host old h → calls ≤ (spending h action).calls → persists ≤ (spending h action).persists
       → {T : Type 0} (r : Result T E) (good : Answer) (why : Option R) (to : Machine) → stop_in good ≡ None → Answers says why r → OnRefused says r ((after host.mode ≡ host) × (new ≡ old))
@@ -111,10 +112,10 @@ module _ {E R : Type 0} (says : E → Told R) (answer : R → Answer) (part : Is
       power_was = serves.power ∙ ap is_powered on
 
       readable_now : (m : Mode) → bad_metadata (after m).geometry new.medium.is_bad ≡ [] → AreReadable (after m).geometry new.medium
-      readable_now m = subst (λ g. bad_metadata g new.medium.is_bad ≡ [] → AreReadable g new.medium) (sym (same m)) readable
+      readable_now m = subst (λ g. bad_metadata g new.medium.is_bad ≡ [] → AreReadable g new.medium) (sym (ap (λ (g : Geometry × ℕ). g.0) (same m))) readable
 
       layout_now : (m : Mode) → HasLayout (after m).geometry new.medium
-      layout_now m = subst (λ g. HasLayout g new.medium) (sym (same m)) layout
+      layout_now m = subst (λ g. HasLayout g new.medium) (sym (ap (λ (g : Geometry × ℕ). g.0) (same m))) layout
 
       powered : (m : Mode) (p : Bool) → new.panel.power ≡ p → p ≡ is_powered m → new.panel.power ≡ is_powered (after m).mode
       powered m p is so = is ∙ so ∙ ap is_powered (sym (in_mode m))
@@ -145,7 +146,7 @@ module _ {E R : Type 0} (says : E → Told R) (answer : R → Answer) (part : Is
         layout = layout_now On;
         readable = readable_now On;
         power = powered On true (runs.cause.0 ∙ power_was) refl;
-        mounted = λ _. subst (λ g. AreMounted g (after On).blocks (after On).volume (after On).files new.medium) (sym (same On)) mounted;
+        mounted = λ _. subst (λ (g : Geometry × ℕ). AreMounted g.0 (after On).blocks (after On).volume (after On).files new.medium) (sym (same On)) mounted;
         stopped = λ e. let is = in_mode On in cc (is, e);
       }
       by_result (Err f) untouched mounted runs = by_told (says f) (part.fed f) untouched runs

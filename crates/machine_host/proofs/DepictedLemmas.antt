@@ -6,7 +6,7 @@ use Rattle.line_device.specs.Medium.{Medium, IsSound, Survivors, last_image}
 use Rattle.line_device.specs.Panel.{Image}
 use Rattle.line_device.specs.Device.{Depicts}
 use Rattle.line_device.specs.declared.line.Choice.TheVariants.{Lasts}
-use Rattle.line_device.proofs.TornLemmas.{torn-one}
+use Rattle.line_device.proofs.TornLemmas.{may_keep-in, torn-one}
 use Rattle.word_tables.specs.declared.geometry.Geometry.{Geometry}
 use Rattle.word_tables.specs.Layout.{total_lines, volume_line}
 use Rattle.word_tables.specs.Words.{place, of_volume_page}
@@ -92,7 +92,7 @@ module _ (geo : Geometry) (m : Medium) (image : Image) (layout : IsGood geo m) (
       record { log = r.log; map = r.map; durable = r.durable; blocks = r.blocks ∙ blocks_depicted kept.before (λ _. Unit {0}) kept.was was }
 
   -- the power could have come back to such lines
-  pub survives : Survivors Lasts m m
+  pub survives : Survivors image.unit Lasts m m
   survives = record {
     count = refl;
     bad = λ n. refl;
@@ -103,7 +103,7 @@ module _ (geo : Geometry) (m : Medium) (image : Image) (layout : IsGood geo m) (
           image.word p,
           record {
             one = one;
-            was = subst (IsIn (image.word p)) (sym one) (inl refl);
+            was = may_keep-in image.unit (image.word p) (m.history p) (subst (IsIn (image.word p)) (sym one) (inl refl));
             last = λ _. sym (ap newest one);
             first = λ _ _. ap (take 1) one;
           },

@@ -53,6 +53,7 @@ pub stands_mapped : (host : HostState) (d : Device) (h : Machine) (ms : Mappings
     → Stands (record host { files = record host.files { mappings = ms } }) d (record h { mappings = ms.mappings; next_handle = ms.next })
 stands_mapped host d h ms none stands = record {
   geometry = stands.geometry;
+  unit = stands.unit;
   mode = stands.mode;
   blocks = stands.blocks;
   volume = stands.volume;
@@ -60,6 +61,7 @@ stands_mapped host d h ms none stands = record {
   mappings = λ _. refl;
   events = stands.events;
   device = record {
+    unit = stands.device.unit;
     metadata = stands.device.metadata;
     blocks = stands.device.blocks;
     volume = stands.device.volume;

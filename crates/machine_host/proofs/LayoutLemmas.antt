@@ -129,19 +129,19 @@ module _ (geo : Geometry) (old new : Medium) where
     }
 
     -- as the power comes back, or was to
-    pub layout-restarted : (choice : Choice) → IsSound old → Survivors choice old new → HasLayout geo new
+    pub layout-restarted : (unit : ℕ) (choice : Choice) → IsSound old → Survivors unit choice old new → HasLayout geo new
     unfolding total_lines
-    layout-restarted choice sound x = record {
+    layout-restarted unit choice sound x = record {
       valid = layout.valid;
       lines = x.count ∙ layout.lines;
       strong = λ n below. x.weak n ∙ layout.strong n below;
-      superblock = superblock-restarted geo choice old new sound (omega (arith, layout.lines)) x layout.superblock;
+      superblock = superblock-restarted geo unit choice old new sound (omega (arith, layout.lines)) x layout.superblock;
     }
 
-    pub layout-waits : Waits old new → HasLayout geo new
-    layout-waits x = record {
+    pub layout-waits : (unit : ℕ) → Waits unit old new → HasLayout geo new
+    layout-waits unit x = record {
       valid = layout.valid;
       lines = x.count ∙ layout.lines;
       strong = λ n below. x.weak n ∙ layout.strong n below;
-      superblock = superblock-waits geo old new x layout.superblock;
+      superblock = superblock-waits geo unit old new x layout.superblock;
     }

@@ -105,9 +105,10 @@ module _ (host : HostState) (p : PagesState) (ms : MappingsState) (name : List �
     still : (runs : Runs (map_calls kind span) 0 went old.panel new.panel) → Stands (record host { files = record host.files { pages = p } }) new h
     still runs =
         let now = subst (λ m. Stands (record host { mode = m }) new h) (sym stands.mode)
-        (written_back host old new h h stands serves c.lines refl (runs.cause.0 ∙ stands.device.power) (runs.cause.2 ∙ stands.device.cut_armed) (runs.cause.3 ∙ stands.device.fail_armed) (λ is. is) (λ is. is)) in
+        (written_back host old new h h stands serves c.lines refl runs.orders.unit (runs.cause.0 ∙ stands.device.power) (runs.cause.2 ∙ stands.device.cut_armed) (runs.cause.3 ∙ stands.device.fail_armed) (λ is. is) (λ is. is)) in
         record {
           geometry = now.geometry;
+          unit = now.unit;
           mode = now.mode;
           blocks = now.blocks;
           volume = now.volume;

@@ -62,8 +62,8 @@ pub line_zero : (geo : Geometry) (m : Medium) → HasLayout geo m → 1 ≤ m.co
 line_zero geo m layout = omega (arith, layout.lines, some_lines geo)
 
 -- each word has one value after a restart
-pub flushed-restarted : (choice : Choice) (old new : Medium) → IsSound old → Survivors choice old new → IsFlushed new
-flushed-restarted choice old new sound x p there = elim (cases_Bool (old.is_bad (p / 8))) as (λ _. IsOnly (last_image new p) (new.history p)) [
+pub flushed-restarted : (unit : ℕ) (choice : Choice) (old new : Medium) → IsSound old → Survivors unit choice old new → IsFlushed new
+flushed-restarted unit choice old new sound x p there = elim (cases_Bool (old.is_bad (p / 8))) as (λ _. IsOnly (last_image new p) (new.history p)) [
   | inl bad ↦ is_only-none (last_image new p) (new.history p) (x.lost p (sound.lost p bad))
   | inr good ↦
       let word = x.words p (subst (λ c. p / 8 < c) x.count there, good) in

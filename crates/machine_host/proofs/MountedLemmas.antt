@@ -44,14 +44,15 @@ use Rattle.machine_host.proofs.ReadingLemmas.{bad_shown, read_whole}
 use Rattle.nvm_model.specs.Events.{restart_events}
 
 -- Once all storage is mounted, host and device stand for it.
-pub stands_mounted : (host : HostState) (d : Device) (pages : List Page) (files : List File) → host.mode ≡ modes.On → HostServes host d → MetadataStands host.geometry d.medium []
+pub stands_mounted : (host : HostState) (d : Device) (pages : List Page) (files : List File) → d.panel.unit ≡ host.unit → host.mode ≡ modes.On → HostServes host d → MetadataStands host.geometry d.medium []
     → VolumeHolds host.volume d.medium pages → FilesStand host.files.pages.journal.geo d.medium host.files.pages.journal.tables files → host.files.mappings ≡ no_mappings
-    → host.files.events.items ≡ restart_events files → Stands host d (record (holding host.geometry (blocks_of host.blocks d.medium) pages files) { cut_armed = d.panel.cut_armed; fail_armed = d.panel.fail_armed })
-stands_mounted host d pages files on serves metadata holds stand none told =
+    → host.files.events.items ≡ restart_events files → Stands host d (record (holding host.geometry (blocks_of host.blocks d.medium) pages files) { unit = host.unit; cut_armed = d.panel.cut_armed; fail_armed = d.panel.fail_armed })
+stands_mounted host d pages files unit on serves metadata holds stand none told =
     let mounted = serves.mounted on in
     let good = subst (λ g. HasGoodMetadata g d.medium) (sym mounted.geometry) (good_lines host.geometry d.medium metadata.bad) in
     record {
       geometry = refl;
+      unit = refl;
       mode = on;
       blocks = λ _. refl;
       volume = λ _. holds;
@@ -59,6 +60,7 @@ stands_mounted host d pages files on serves metadata holds stand none told =
       mappings = λ _. none;
       events = λ _. told;
       device = record {
+        unit = unit;
         metadata = metadata;
         blocks = λ _. subst (λ g. EachReads g d.medium (λ bs. bs ≡ blocks_of host.blocks d.medium)) mounted.geometry (served_reads host.blocks d.medium good mounted.serves);
         volume = λ _. subst (λ g. EachReadsPages g d.medium (λ x. x ≡ pages)) mounted.volume_geometry (served_pages host.volume d.medium pages mounted.volume_serves holds);
@@ -114,14 +116,14 @@ readable_served geo s m same serves good =
     (each_reads-then s.geo m (λ bs. bs ≡ blocks_of s m) (λ _. Unit {0}) (λ _ _. tt) (served_reads s m (subst (λ g. HasGoodMetadata g m) (sym same) good) serves))
 
 pub stands_found : (host : HostState) (old new : Device) (image : Image) → IsSound old.medium → IsFlushed old.medium → first_finding old.medium ≡ None → Depicts old.medium image
-    → host.geometry ≡ geometry_told old.medium → host.mode ≡ modes.On
+    → image.unit ≡ host.unit → new.panel.unit ≡ host.unit → host.geometry ≡ geometry_told old.medium → host.mode ≡ modes.On
     → blocks_of host.blocks new.medium ≡ blocks_read (geometry_told old.medium) old.medium.is_bad (last_image old.medium)
     → host.volume.present ≡ presence_read (geometry_told old.medium) (last_image old.medium) → host.files.pages.journal.tables ≡ tables_read (geometry_told old.medium) (last_image old.medium)
     → WritesBackOutside (IsOfLogs (geometry_told old.medium)) old.medium new.medium
     → MetadataStands host.geometry new.medium [] → HostServes host new → host.files.mappings ≡ no_mappings
     → ((files : List File) → FilesStand host.files.pages.journal.geo new.medium host.files.pages.journal.tables files → host.files.events.items ≡ restart_events files)
     → Stands host new (record (reading (geometry_told old.medium) image) { cut_armed = new.panel.cut_armed; fail_armed = new.panel.fail_armed })
-stands_found host old new image sound flushed none shows sizes on blocks present tables outside metadata serves unmapped told =
+stands_found host old new image sound flushed none shows by_unit unit sizes on blocks present tables outside metadata serves unmapped told =
     let m = old.medium in
     let geo = geometry_told m in
     let layout = layout_found m flushed none in
@@ -134,6 +136,7 @@ stands_found host old new image sound flushed none shows sizes on blocks present
     let right = subst (λ g. AreTables g.fpages host.files.pages.journal.tables) sizes mounted.journal_right in
     let stand = files_depicted geo m image layout shows new.medium host.files.pages.journal sound (files_found m none) right outside (mounted.journal_geometry ∙ sizes) tables in
     subst (λ k. Stands host new (record k { cut_armed = new.panel.cut_armed; fail_armed = new.panel.fail_armed })) (sym (read_whole geo image shown))
-    (subst (λ bs. Stands host new (record (holding geo bs pages files) { cut_armed = new.panel.cut_armed; fail_armed = new.panel.fail_armed })) read
-    (subst (λ g. Stands host new (record (holding g (blocks_of host.blocks new.medium) pages files) { cut_armed = new.panel.cut_armed; fail_armed = new.panel.fail_armed })) sizes
-    (stands_mounted host new pages files on serves metadata holds stand unmapped (told files stand))))
+    (subst (λ u. Stands host new (record (holding geo (blocks_read geo image.is_bad image.word) pages files) { unit = u; cut_armed = new.panel.cut_armed; fail_armed = new.panel.fail_armed })) (sym by_unit)
+    (subst (λ bs. Stands host new (record (holding geo bs pages files) { unit = host.unit; cut_armed = new.panel.cut_armed; fail_armed = new.panel.fail_armed })) read
+    (subst (λ g. Stands host new (record (holding g (blocks_of host.blocks new.medium) pages files) { unit = host.unit; cut_armed = new.panel.cut_armed; fail_armed = new.panel.fail_armed })) sizes
+    (stands_mounted host new pages files unit on serves metadata holds stand unmapped (told files stand)))))

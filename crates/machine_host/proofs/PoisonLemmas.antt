@@ -139,6 +139,7 @@ module _ (host : HostState) (old new : Device) (line : ℕ) (serves : HostServes
     stands_poisoned : Stands host new (record h { bad_meta = with_line line h.bad_meta })
     stands_poisoned = record {
       geometry = stands.geometry;
+      unit = stands.unit;
       mode = stands.mode;
       blocks = blocks_same;
       volume = volume_same;
@@ -146,6 +147,7 @@ module _ (host : HostState) (old new : Device) (line : ℕ) (serves : HostServes
       mappings = stands.mappings;
       events = stands.events;
       device = record {
+        unit = ap (λ p. p.unit) panel ∙ stands.device.unit;
         metadata = metadata-poisoned h.geometry line old.medium new.medium (subst (λ g. line < meta_lines g) stands.geometry within) w h.bad_meta stands.device.metadata;
         blocks = λ none. absurd (some_bad line h.bad_meta none);
         volume = λ none. absurd (some_bad line h.bad_meta none);

@@ -18,13 +18,13 @@ use Rattle.machine_host.proofs.BadLineLemmas.{meta_within}
 use Rattle.machine_host.proofs.LayoutLemmas.{filter-same}
 
 pub read_whole : (geo : Geometry) (image : Image) → bad_metadata geo image.is_bad ≡ []
-    → reading geo image ≡ holding geo (blocks_read geo image.is_bad image.word) (read_pages (volume_line geo) image (presence_read geo image.word)) (files_read geo image)
+    → reading geo image ≡ record (holding geo (blocks_read geo image.is_bad image.word) (read_pages (volume_line geo) image (presence_read geo image.word)) (files_read geo image)) { unit = image.unit }
 unfolding reading
-read_whole geo image none = ap (λ lines. read_with lines geo image) none
+read_whole geo image none = ap (λ lines. record (read_with lines geo image) { unit = image.unit }) none
 
-pub read_stopped : (geo : Geometry) (image : Image) (line : ℕ) (lines : List ℕ) → bad_metadata geo image.is_bad ≡ line ∷ lines → reading geo image ≡ stopped_by geo (line ∷ lines)
+pub read_stopped : (geo : Geometry) (image : Image) (line : ℕ) (lines : List ℕ) → bad_metadata geo image.is_bad ≡ line ∷ lines → reading geo image ≡ record (stopped_by geo (line ∷ lines)) { unit = image.unit }
 unfolding reading
-read_stopped geo image line lines some = ap (λ lines. read_with lines geo image) some
+read_stopped geo image line lines some = ap (λ lines. record (read_with lines geo image) { unit = image.unit }) some
 
 -- an image that shows a medium has its bad lines
 pub bad_shown : (geo : Geometry) (m : Medium) (image : Image) → m.count ≡ total_lines geo → Depicts m image → bad_metadata geo image.is_bad ≡ bad_metadata geo m.is_bad
@@ -44,9 +44,9 @@ recovered_back h next image may = by_lines (bad_metadata h.geometry image.is_bad
         let pages = read_pages (volume_line h.geometry) image (presence_read h.geometry image.word) in
         let blocks = blocks_read h.geometry image.is_bad image.word in
         is.state
-        ∙ ap (λ bs. record (holding h.geometry bs next.volume next.files) { cut_armed = h.cut_armed; fail_armed = h.fail_armed }) is.blocks
-        ∙ ap (λ ps. record (holding h.geometry blocks ps next.files) { cut_armed = h.cut_armed; fail_armed = h.fail_armed }) is.volume
-        ∙ ap (λ files. record (holding h.geometry blocks pages files) { cut_armed = h.cut_armed; fail_armed = h.fail_armed }) is.files
+        ∙ ap (λ bs. record (holding h.geometry bs next.volume next.files) { unit = image.unit; cut_armed = h.cut_armed; fail_armed = h.fail_armed }) is.blocks
+        ∙ ap (λ ps. record (holding h.geometry blocks ps next.files) { unit = image.unit; cut_armed = h.cut_armed; fail_armed = h.fail_armed }) is.volume
+        ∙ ap (λ files. record (holding h.geometry blocks pages files) { unit = image.unit; cut_armed = h.cut_armed; fail_armed = h.fail_armed }) is.files
         ∙ ap (λ (k : Machine). record k { cut_armed = h.cut_armed; fail_armed = h.fail_armed }) (sym read)
     by_lines (line ∷ lines) some =
         let read = read_stopped h.geometry image line lines some in

@@ -78,7 +78,7 @@ pub record BroughtUp (h : Machine) (after : HostState) (new : Device) : Type 0 w
 module _ (host : HostState) (old new : Device) (serves : HostServes host old) (unsettled : host.mode ≡ modes.Unsettled) (sound : IsSound old.medium) (x : IsMount old new) where
   -- the host in another mode, with nothing mounted
   abbrev pub in_mode : Mode → HostState
-  in_mode mode = record { geometry = host.geometry; mode = mode; blocks = host.blocks; volume = host.volume; files = host.files }
+  in_mode mode = record { geometry = host.geometry; unit = host.unit; mode = mode; blocks = host.blocks; volume = host.volume; files = host.files }
 
   layout_new : HasLayout host.geometry new.medium
   layout_new = layout_mount host.geometry old new serves.layout sound x
@@ -95,7 +95,7 @@ module _ (host : HostState) (old new : Device) (serves : HostServes host old) (u
   -- the mount was done
   module _ (runs : Runs mount_calls mount_persists went old.panel new.panel) (found : first_finding old.medium ≡ None) (s : BlocksState) (v : VolumeState) (p : PagesState) (e : Stock Event) (given : Gives old new s v p e) where
     abbrev pub taken : HostState
-    taken = record { geometry = host.geometry; mode = modes.On; blocks = s; volume = v; files = just_mounted p e }
+    taken = record { geometry = host.geometry; unit = host.unit; mode = modes.On; blocks = s; volume = v; files = just_mounted p e }
 
     none : bad_metadata host.geometry old.medium.is_bad ≡ []
     none = none_found host.geometry old new serves.layout sound x found
@@ -170,10 +170,11 @@ module _ (host : HostState) (old new : Device) (serves : HostServes host old) (u
         (file_pages_kept geo old.medium new.medium was.valid (outside_of geo old new was sound x (none_of good))) (stands.device.files good)
 
     -- The state stays, where the mount was not done, in this mode and with what is armed then.
-    kept : (mode : Mode) → new.panel.power ≡ is_powered mode → (mode ≡ modes.On → ⊥) → (mode ≡ modes.Stopped → ⊥)
+    kept : (mode : Mode) → new.panel.unit ≡ old.panel.unit → new.panel.power ≡ is_powered mode → (mode ≡ modes.On → ⊥) → (mode ≡ modes.Stopped → ⊥)
         → Stands (in_mode mode) new (record h { mode = mode; cut_armed = new.panel.cut_armed; fail_armed = new.panel.fail_armed })
-    kept mode power off up = record {
+    kept mode unit power off up = record {
       geometry = stands.geometry;
+      unit = stands.unit;
       mode = refl;
       blocks = λ on. absurd (off on);
       volume = λ on. absurd (off on);
@@ -181,6 +182,7 @@ module _ (host : HostState) (old new : Device) (serves : HostServes host old) (u
       mappings = λ on. absurd (off on);
       events = λ on. absurd (off on);
       device = record {
+        unit = unit ∙ stands.device.unit;
         metadata = metadata;
         blocks = blocks_kept;
         volume = volume_kept;
@@ -220,7 +222,7 @@ module _ (host : HostState) (old new : Device) (serves : HostServes host old) (u
       next = struck h by new.panel;
       ends = inr (by, refl, interrupts by h mount_calls mount_persists old.panel new.panel runs stands.device.cut_armed stands.device.fail_armed);
       tells = tells_interrupted (record { calls = mount_calls; persists = mount_persists }) mount_calls mount_persists (omega arith) (omega arith) old.panel new.panel by runs;
-      stands = kept (interrupted_mode by) (power_struck by h mount_calls mount_persists old.panel new.panel runs (serves.power ∙ ap is_powered unsettled)) (never_on by) (never_stops by);
+      stands = kept (interrupted_mode by) runs.orders.unit (power_struck by h mount_calls mount_persists old.panel new.panel runs (serves.power ∙ ap is_powered unsettled)) (never_on by) (never_stops by);
     }
 
     module _ (runs : Runs mount_calls mount_persists went old.panel new.panel) where
@@ -241,7 +243,7 @@ module _ (host : HostState) (old new : Device) (serves : HostServes host old) (u
           (subst (λ m. Stands (in_mode modes.Unsettled) new (record h { mode = m })) mode
           (subst (λ cut. Stands (in_mode modes.Unsettled) new (record h { mode = modes.Unsettled; cut_armed = cut })) cut_stays
           (subst (λ fail. Stands (in_mode modes.Unsettled) new (record h { mode = modes.Unsettled; cut_armed = new.panel.cut_armed; fail_armed = fail })) fail_stays
-          (kept modes.Unsettled power_stays (λ on. cc on) (λ stop. cc stop)))))
+          (kept modes.Unsettled runs.orders.unit power_stays (λ on. cc on) (λ stop. cc stop)))))
 
       -- A bad line of metadata stops the host.
       module _ (line : ℕ) (found : first_finding old.medium ≡ Some (bad_line line)) where
@@ -249,12 +251,13 @@ module _ (host : HostState) (old new : Device) (serves : HostServes host old) (u
         stopped_up =
             let bad = found_bad geo old.medium was sound line found in
             let is : h.bad_meta ≡ line ∷ bad.0 = sym stands.device.metadata.bad ∙ bad.1 in
-            let next : Machine = record (stopped_by geo (line ∷ bad.0)) { cut_armed = h.cut_armed; fail_armed = h.fail_armed } in
+            let next : Machine = record (stopped_by geo (line ∷ bad.0)) { unit = h.unit; cut_armed = h.cut_armed; fail_armed = h.fail_armed } in
             record {
               next = next;
               may = subst (λ lines. RecoversTo lines h next) (sym is) refl;
               stands = record {
                 geometry = stands.geometry;
+                unit = stands.unit;
                 mode = refl;
                 blocks = λ on. cc on;
                 volume = λ on. cc on;
@@ -262,6 +265,7 @@ module _ (host : HostState) (old new : Device) (serves : HostServes host old) (u
                 mappings = λ on. cc on;
                 events = λ on. cc on;
                 device = record {
+                  unit = runs.orders.unit ∙ stands.device.unit;
                   metadata = subst (MetadataStands geo new.medium) is metadata;
                   blocks = λ none. cc none;
                   volume = λ none. cc none;
@@ -329,13 +333,14 @@ module _ (host : HostState) (old new : Device) (serves : HostServes host old) (u
         pub done_up : BroughtUp h (taken runs found s v p e given) new
         done_up =
             let mounted = (serves_taken runs found s v p e given).mounted refl in
-            let next : Machine = record (holding geo (blocks_of s new.medium) pages_last.pages files_last.files) { cut_armed = h.cut_armed; fail_armed = h.fail_armed } in
+            let next : Machine = record (holding geo (blocks_of s new.medium) pages_last.pages files_last.files) { unit = h.unit; cut_armed = h.cut_armed; fail_armed = h.fail_armed } in
             record {
               next = next;
               may = subst (λ lines. RecoversTo lines h next) (sym good_meta)
                   (record { blocks = subst (MayLeaveBlocks h.interrupted h.blocks) (sym seen) reads_last.blocks; volume = pages_last.is; files = files_last.is; state = refl });
               stands = record {
                 geometry = stands.geometry;
+                unit = stands.unit;
                 mode = refl;
                 blocks = λ _. refl;
                 volume = λ _. holds;
@@ -343,6 +348,7 @@ module _ (host : HostState) (old new : Device) (serves : HostServes host old) (u
                 mappings = λ _. refl;
                 events = λ _. given.events files_last.files stands_for;
                 device = record {
+                  unit = runs.orders.unit ∙ stands.device.unit;
                   metadata = subst (MetadataStands geo new.medium) good_meta metadata;
                   blocks = λ _.
                       subst (λ g. EachReads g new.medium (λ bs. bs ≡ blocks_of s new.medium)) (mounted.geometry ∙ stands.geometry)

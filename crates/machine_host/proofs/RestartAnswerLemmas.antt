@@ -60,14 +60,14 @@ pub record MountAnswered (host after : HostState) (answer : Answer) (old new : D
 
 module _ (host : HostState) (old new : Device) (serves : HostServes host old) (unsettled : host.mode ≡ modes.Unsettled) (sound : IsSound old.medium) (x : IsMount old new) where
   abbrev in_mode : Mode → HostState
-  in_mode mode = record { geometry = host.geometry; mode = mode; blocks = host.blocks; volume = host.volume; files = host.files }
+  in_mode mode = record { geometry = host.geometry; unit = host.unit; mode = mode; blocks = host.blocks; volume = host.volume; files = host.files }
 
   on : old.panel.power ≡ true
   on = serves.power ∙ ap is_powered unsettled
 
   -- it was done
   pub mount_done : (s : BlocksState) (v : VolumeState) (p : PagesState) (e : Stock Event) (answer : Answer) → Runs mount_calls mount_persists went old.panel new.panel → first_finding old.medium ≡ None → Gives old new s v p e → CountsBad s v p.journal new.medium answer
-      → MountAnswered host (record { geometry = host.geometry; mode = modes.On; blocks = s; volume = v; files = just_mounted p e }) answer old new
+      → MountAnswered host (record { geometry = host.geometry; unit = host.unit; mode = modes.On; blocks = s; volume = v; files = just_mounted p e }) answer old new
   mount_done s v p e answer runs found given counts = record {
     step = λ h stands. mounts_done host old new serves unsettled sound x h stands runs found s v p e given answer counts;
     accepts = ap is_refusal counts.told;

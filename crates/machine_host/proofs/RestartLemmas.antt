@@ -1,6 +1,6 @@
 -- A restart of the device: host and device stand for what it left, with nothing mounted yet.
 use Rattle.std.proofs.Common.{◌≡◌, ℕ, List, [], ◌∷◌, refl, sym, ap, subst, ◌∙◌}
-use Rattle.line_device.specs.Medium.{IsSound}
+use Rattle.line_device.specs.Medium.{IsSound, Survivors}
 use Rattle.line_device.specs.Panel.{Start}
 use Rattle.line_device.specs.Device.{Device, Restarted, Waited}
 use Rattle.line_device.specs.declared.line.Choice.{Choice}
@@ -25,9 +25,9 @@ pub serves_waited : (host : HostState) (old new : Device) → HostServes host ol
 serves_waited host old new serves off x =
     let geo = host.geometry in
     record {
-      layout = layout-waits geo old.medium new.medium serves.layout x.lines;
+      layout = layout-waits geo old.medium new.medium serves.layout old.panel.unit x.lines;
       readable = λ none.
-          each_reads-waits geo serves.layout.valid old.medium new.medium (λ _. Unit {0}) x.lines (serves.readable (sym (same_bad geo old.medium new.medium (λ n below. x.lines.bad n)) ∙ none));
+          each_reads-waits geo serves.layout.valid old.panel.unit old.medium new.medium (λ _. Unit {0}) x.lines (serves.readable (sym (same_bad geo old.medium new.medium (λ n below. x.lines.bad n)) ∙ none));
       power = x.panel.power ∙ serves.power;
       mounted = λ on. cc (on, off);
       stopped = λ stop. cc (stop, off);
@@ -43,9 +43,9 @@ module _ (host : HostState) (choice : Choice) (old mid : Device) (start : Start)
   serves_back =
       let geo = host.geometry in
       record {
-        layout = layout-restarted geo old.medium mid.medium serves.layout choice sound_old left.lines;
+        layout = layout-restarted geo old.medium mid.medium serves.layout old.panel.unit choice sound_old left.lines;
         readable = λ none.
-            each_reads-restarted geo serves.layout.valid choice old.medium mid.medium (λ _. Unit {0}) sound_old serves.layout.lines left.lines
+            each_reads-restarted geo serves.layout.valid old.panel.unit choice old.medium mid.medium (λ _. Unit {0}) sound_old serves.layout.lines left.lines
             (serves.readable (sym (same_bad geo old.medium mid.medium (λ n below. left.lines.bad n)) ∙ none));
         power = ap (λ p. p.power) left.panel;
         mounted = λ on. cc on;
@@ -63,7 +63,7 @@ module _ (host : HostState) (choice : Choice) (old mid : Device) (start : Start)
     metadata : MetadataStands geo mid.medium h.bad_meta
     metadata =
         let was = stands.device.metadata in
-        metadata-then geo old.medium mid.medium h.bad_meta (layout-restarted geo old.medium mid.medium was.layout choice sound_old left.lines) (λ n below. left.lines.bad n) was
+        metadata-then geo old.medium mid.medium h.bad_meta (layout-restarted geo old.medium mid.medium was.layout old.panel.unit choice sound_old left.lines) (λ n below. left.lines.bad n) was
 
     shown : bad_metadata geo start.image.is_bad ≡ h.bad_meta
     shown = bad_shown geo mid.medium start.image metadata.layout.lines left.image ∙ metadata.bad
@@ -71,11 +71,19 @@ module _ (host : HostState) (choice : Choice) (old mid : Device) (start : Start)
     good_was : h.bad_meta ≡ [] → IsGood geo old.medium
     good_was good = is_good stands.device.metadata.layout (good_lines geo old.medium (stands.device.metadata.bad ∙ good))
 
+    -- what was left, by the unit of what is told
+    survived : Survivors start.image.unit choice old.medium mid.medium
+    survived = subst (λ u. Survivors u choice old.medium mid.medium) (sym left.unit) left.lines
+
+    unit_stays : start.image.unit ≡ h.unit
+    unit_stays = left.unit ∙ stands.device.unit
+
     -- the restart left what it may leave
     pub keeps : RestartMayLeave choice start.image h
     keeps = record {
+      unit = unit_stays;
       metadata = shown;
-      storage = λ good. kept_back h choice old.medium mid.medium start.image (good_was good) (stands.device.blocks good) (stands.device.volume good) (stands.device.files good) left.lines left.image sound_old sound;
+      storage = λ good. kept_back h choice old.medium mid.medium start.image (good_was good) (stands.device.blocks good) (stands.device.volume good) (stands.device.files good) survived left.image sound_old sound;
     }
 
     pub stands_back : Stands back mid came_back
@@ -95,6 +103,7 @@ module _ (host : HostState) (choice : Choice) (old mid : Device) (start : Start)
             let files_were = stands.device.files good in
             subst (λ k. Stands back mid (record k { mode = modes.Unsettled; cut_armed = h.cut_armed; fail_armed = h.fail_armed })) (sym (read_whole geo start.image (shown ∙ good))) (record {
               geometry = stands.geometry;
+              unit = stands.unit ∙ sym unit_stays;
               mode = refl;
               blocks = λ on. cc on;
               volume = λ on. cc on;
@@ -102,13 +111,14 @@ module _ (host : HostState) (choice : Choice) (old mid : Device) (start : Start)
               mappings = λ on. cc on;
               events = λ on. cc on;
               device = record {
+                unit = ap (λ p. p.unit) left.panel ∙ sym left.unit;
                 metadata = subst (MetadataStands geo mid.medium) good metadata;
                 blocks = λ _.
-                    reads_remounted geo mid.medium start.image (layout_back h choice old.medium mid.medium start.image was blocks_were volume_was files_were left.lines left.image sound_old sound) left.image mid.medium
-                    (readable_back h choice old.medium mid.medium start.image was blocks_were volume_was files_were left.lines left.image sound_old sound)
+                    reads_remounted geo mid.medium start.image (layout_back h choice old.medium mid.medium start.image was blocks_were volume_was files_were survived left.image sound_old sound) left.image mid.medium
+                    (readable_back h choice old.medium mid.medium start.image was blocks_were volume_was files_were survived left.image sound_old sound)
                     (keeps_reads-write_back geo mid.medium mid.medium (write_back-refl mid.medium));
-                volume = λ _. each_back h choice old.medium mid.medium start.image was blocks_were volume_was files_were left.lines left.image sound_old sound;
-                files = λ _. each_files_back h choice old.medium mid.medium start.image was blocks_were volume_was files_were left.lines left.image sound_old sound;
+                volume = λ _. each_back h choice old.medium mid.medium start.image was blocks_were volume_was files_were survived left.image sound_old sound;
+                files = λ _. each_files_back h choice old.medium mid.medium start.image was blocks_were volume_was files_were survived left.image sound_old sound;
                 power = ap (λ p. p.power) left.panel;
                 cut_armed = cut_was;
                 fail_armed = fail_was;
@@ -119,6 +129,7 @@ module _ (host : HostState) (choice : Choice) (old mid : Device) (start : Start)
         by_lines (line ∷ lines) bad =
             subst (λ k. Stands back mid (record k { mode = modes.Unsettled; cut_armed = h.cut_armed; fail_armed = h.fail_armed })) (sym (read_stopped geo start.image line lines (shown ∙ bad))) (record {
               geometry = stands.geometry;
+              unit = stands.unit ∙ sym unit_stays;
               mode = refl;
               blocks = λ on. cc on;
               volume = λ on. cc on;
@@ -126,6 +137,7 @@ module _ (host : HostState) (choice : Choice) (old mid : Device) (start : Start)
               mappings = λ on. cc on;
               events = λ on. cc on;
               device = record {
+                unit = ap (λ p. p.unit) left.panel ∙ sym left.unit;
                 metadata = subst (MetadataStands geo mid.medium) bad metadata;
                 blocks = λ none. cc none;
                 volume = λ none. cc none;

@@ -45,6 +45,7 @@ telling e host = record host { files = record host.files { events = e } }
 pub stands_telling : (host : HostState) (d : Device) (h : Machine) (e : Stock Event) (events : List Event) → e.items ≡ events → Stands host d h → Stands (telling e host) d (record h { events = events })
 stands_telling host d h e events same stands = record {
   geometry = stands.geometry;
+  unit = stands.unit;
   mode = stands.mode;
   blocks = stands.blocks;
   volume = stands.volume;
@@ -52,6 +53,7 @@ stands_telling host d h e events same stands = record {
   mappings = stands.mappings;
   events = λ _. same;
   device = record {
+    unit = stands.device.unit;
     metadata = stands.device.metadata;
     blocks = stands.device.blocks;
     volume = stands.device.volume;

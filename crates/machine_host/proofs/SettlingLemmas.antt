@@ -264,11 +264,12 @@ module _ (host : HostState) (old quiet : Device) (serves : HostServes host old) 
   is_disarmed = record { cut = ap (λ p. p.cut_armed) panel; fail = ap (λ p. p.fail_armed) panel }
 
   stands_disarmed : (h : Machine) → Stands host old h → Stands host quiet (disarmed h)
-  stands_disarmed h stands = stands_ordered host old quiet h (disarmed h) stands serves w refl (ap (λ p. p.power) panel) (ap (λ p. p.cut_armed) panel) (ap (λ p. p.fail_armed) panel)
+  stands_disarmed h stands = stands_ordered host old quiet h (disarmed h) stands serves w refl (ap (λ p. p.unit) panel) (ap (λ p. p.power) panel) (ap (λ p. p.cut_armed) panel) (ap (λ p. p.fail_armed) panel)
 
   -- that what is armed is no part of what a settling comes to
   keeps_disarmed : (h : Machine) (start : Start) → RestartMayLeave Lasts start.image (disarmed h) → RestartMayLeave Lasts start.image h
   keeps_disarmed h start k = record {
+    unit = k.unit;
     metadata = k.metadata;
     storage = λ good.
         let kept = k.storage good in
@@ -354,7 +355,7 @@ module _ (host : HostState) (old quiet : Device) (serves : HostServes host old) 
           asks = d.asks;
           restarts = d.restarts;
           once = d.once;
-          waiting = λ is. let stays = d.waiting is in record { same = stays.same; none = stays.none; lines = waits-after old.medium quiet.medium new.medium w stays.lines };
+          waiting = λ is. let stays = d.waiting is in record { same = stays.same; none = stays.none; lines = waits-after old.panel.unit old.medium quiet.medium new.medium w (subst (λ u. Waits u quiet.medium new.medium) (ap (λ p. p.unit) panel) stays.lines) };
           stands = λ h stands is.
               let l = d.stands (disarmed h) (stands_disarmed h stands) is in
               (l.0, leaves_disarmed h host.mode d.starts l.0 l.1, l.2);

@@ -1,5 +1,6 @@
 -- What a host and its device stand for, after what is done to the device.
 use Rattle.std.proofs.Common.{◌≡◌, ℕ, ◌≤◌, inl, inr, true, false, Some, None, option_map, Result, Ok, Err, OnErr, List, [], refl, sym, ap, subst, ◌∙◌, arith}
+use Rattle.word_tables.specs.declared.geometry.Geometry.{Geometry}
 use Rattle.line_device.specs.Medium.{Medium, WritesBack}
 use Rattle.line_device.proofs.WriteBackLemmas.{write_back-refl}
 use Rattle.line_device.specs.Panel.{Runs, after_arm_cut, after_arm_fail, after_evict, after_power_off}
@@ -39,7 +40,7 @@ use Rattle.machine_model.specs.Meaning.{Starved, mode_refusal, no_reasons}
 use Rattle.machine_model.specs.Meaning.Starved.{Untouched, WrittenBack, Unmounted, Unrecovered}
 use Rattle.machine_host.specs.Lines.{MetadataStands}
 use Rattle.machine_model.specs.Lines.{bad_metadata}
-use Rattle.machine_host.specs.Stands.{HostState, HostServes, Stands, Comes, is_powered}
+use Rattle.machine_host.specs.Stands.{HostState, HostServes, Stands, Comes, is_powered, medium_of}
 use Rattle.machine_host.proofs.CostLemmas.{opens-none}
 use Rattle.machine_host.proofs.ElsewhereLemmas.{pages_elsewhere, volume_holds_elsewhere}
 use Rattle.machine_host.proofs.FilesAsideLemmas.{files_elsewhere, files_stand_elsewhere}
@@ -125,7 +126,7 @@ pub record DeviceLeft (h : Machine) (action : Action) (new : Medium) : Type 0 wh
   pub files : h.bad_meta ≡ [] → EachReadsFiles h.geometry new (MayLeaveFiles h.mappings (Some action) h.files)
 
 module _ (host after : HostState) (old new : Device) (h : Machine) (action : Action) (stands : Stands host old h) (on : host.mode ≡ modes.On)
-    (calls persists : ℕ) (few : calls ≤ (spending h action).calls) (few_persists : persists ≤ (spending h action).persists) (same : after.geometry ≡ host.geometry) where
+    (calls persists : ℕ) (few : calls ≤ (spending h action).calls) (few_persists : persists ≤ (spending h action).persists) (same : medium_of after ≡ medium_of host) where
   -- Work that went well comes to its answer and its state.
   pub comes_of_done : (to : Machine) (answer : Answer) → stop_in answer ≡ None → Runs calls persists went old.panel new.panel → Stands after new to → Comes h action (Works answer to) answer after old new
   comes_of_done to answer quiet runs now = record {
@@ -143,7 +144,8 @@ module _ (host after : HostState) (old new : Device) (h : Machine) (action : Act
   stands_done maps events bs pages files mode runs metadata blocks_are pages_are files_are =
       let whole = stands.device.whole (sym stands.mode ∙ on) in
       record {
-        geometry = same ∙ stands.geometry;
+        geometry = ap (λ (g : Geometry × ℕ). g.0) same ∙ stands.geometry;
+        unit = ap (λ (g : Geometry × ℕ). g.1) same ∙ stands.unit;
         mode = mode ∙ sym on ∙ stands.mode;
         blocks = λ _. blocks_are.1;
         volume = λ _. pages_are.1;
@@ -151,6 +153,7 @@ module _ (host after : HostState) (old new : Device) (h : Machine) (action : Act
         mappings = λ _. maps ∙ stands.mappings on;
         events = λ _. ap (λ (e : Stock Event). e.items) events ∙ stands.events on;
         device = record {
+          unit = runs.orders.unit ∙ stands.device.unit;
           metadata = metadata;
           blocks = λ good. subst (λ interrupted. EachReads h.geometry new.medium (MayLeaveBlocks interrupted bs)) (sym whole) (blocks_are.0 good);
           volume = λ good. subst (λ interrupted. EachReadsPages h.geometry new.medium (MayLeaveVolume h.geometry interrupted pages)) (sym whole) (pages_are.0 good);
@@ -177,7 +180,8 @@ module _ (host after : HostState) (old new : Device) (h : Machine) (action : Act
     );
     tells = tells_interrupted (spending h action) calls persists few few_persists old.panel new.panel by runs;
     stands = record {
-      geometry = same ∙ stands.geometry;
+      geometry = ap (λ (g : Geometry × ℕ). g.0) same ∙ stands.geometry;
+      unit = ap (λ (g : Geometry × ℕ). g.1) same ∙ stands.unit;
       mode = mode;
       blocks = λ is_on. absurd (never_on by (sym mode ∙ is_on));
       volume = λ is_on. absurd (never_on by (sym mode ∙ is_on));
@@ -185,6 +189,7 @@ module _ (host after : HostState) (old new : Device) (h : Machine) (action : Act
       mappings = λ is_on. absurd (never_on by (sym mode ∙ is_on));
       events = λ is_on. absurd (never_on by (sym mode ∙ is_on));
       device = record {
+        unit = runs.orders.unit ∙ stands.device.unit;
         metadata = left.metadata;
         blocks = left.blocks;
         volume = left.volume;
@@ -200,15 +205,16 @@ module _ (host after : HostState) (old new : Device) (h : Machine) (action : Act
 
 -- what stands while all is only written back, in another mode and with other flags
 pub written_back : (host : HostState) (old new : Device) (h next : Machine) → Stands host old h → HostServes host old → WritesBack old.medium new.medium → (next ≡ record h { mode = next.mode; cut_armed = next.cut_armed; fail_armed = next.fail_armed })
-    → new.panel.power ≡ is_powered next.mode → new.panel.cut_armed ≡ next.cut_armed → new.panel.fail_armed ≡ next.fail_armed → (next.mode ≡ modes.On → h.mode ≡ modes.On)
+    → new.panel.unit ≡ old.panel.unit → new.panel.power ≡ is_powered next.mode → new.panel.cut_armed ≡ next.cut_armed → new.panel.fail_armed ≡ next.fail_armed → (next.mode ≡ modes.On → h.mode ≡ modes.On)
     → (next.mode ≡ modes.Stopped → h.mode ≡ modes.Stopped) → Stands (record host { mode = next.mode }) new next
-written_back host old new h next stands serves write_back is power cut fail mode stop =
+written_back host old new h next stands serves write_back is unit power cut fail mode stop =
     let lines : (n : ℕ) → LineKept old.medium new.medium n = λ n. line_kept-write_back old.medium new.medium n write_back in
     let kept = blocks_elsewhere host old new h stands serves (λ n of. stays_of_kept old.medium new.medium n (lines n)) in
     let pages = volume_elsewhere host old new h stands serves (λ n of. lines n) in
     let listed = files_aside host old new h stands serves (λ n of. lines n) in
     subst (λ n. Stands (record host { mode = next.mode }) new n) (sym is) (record {
       geometry = stands.geometry;
+      unit = stands.unit;
       mode = refl;
       blocks = λ on. kept.1 (stands.mode ∙ mode on);
       volume = λ on. pages.1 (stands.mode ∙ mode on);
@@ -216,6 +222,7 @@ written_back host old new h next stands serves write_back is power cut fail mode
       mappings = λ on. stands.mappings (stands.mode ∙ mode on);
       events = λ on. stands.events (stands.mode ∙ mode on);
       device = record {
+        unit = unit ∙ stands.device.unit;
         metadata = metadata-then h.geometry old.medium new.medium h.bad_meta (layout-write_back h.geometry old.medium new.medium stands.device.metadata.layout write_back) (λ n below. write_back.bad n) stands.device.metadata;
         blocks = kept.0;
         volume = pages.0;
@@ -230,11 +237,11 @@ written_back host old new h next stands serves write_back is power cut fail mode
 
 -- what stands after an order to the device, where other things are armed
 pub stands_ordered : (host : HostState) (old new : Device) (h next : Machine) → Stands host old h → HostServes host old → WritesBack old.medium new.medium → (next ≡ record h { cut_armed = next.cut_armed; fail_armed = next.fail_armed })
-    → new.panel.power ≡ old.panel.power → new.panel.cut_armed ≡ next.cut_armed → new.panel.fail_armed ≡ next.fail_armed → Stands host new next
-stands_ordered host old new h next stands serves write_back is power cut fail =
+    → new.panel.unit ≡ old.panel.unit → new.panel.power ≡ old.panel.power → new.panel.cut_armed ≡ next.cut_armed → new.panel.fail_armed ≡ next.fail_armed → Stands host new next
+stands_ordered host old new h next stands serves write_back is unit power cut fail =
     let mode : next.mode ≡ h.mode = ap (λ n. n.mode) is in
     subst (λ (s : HostState). Stands s new next) (ap (λ m. record host { mode = m }) (mode ∙ sym stands.mode))
-    (written_back host old new h next stands serves write_back (is ∙ ap (λ m. record h { mode = m; cut_armed = next.cut_armed; fail_armed = next.fail_armed }) (sym mode))
+    (written_back host old new h next stands serves write_back (is ∙ ap (λ m. record h { mode = m; cut_armed = next.cut_armed; fail_armed = next.fail_armed }) (sym mode)) unit
     (power ∙ stands.device.power ∙ ap is_powered (sym mode)) cut fail (λ on. sym mode ∙ on) (λ stop. sym mode ∙ stop))
 
 -- A cut comes to the state without power.
@@ -262,20 +269,20 @@ comes_of_cut host old new h stands serves write_back panel =
         setups = omega arith;
         disarms = refl;
       });
-      stands = written_back host old new h next stands serves write_back refl (ap (λ p. p.power) panel) (ap (λ p. p.cut_armed) panel) (ap (λ p. p.fail_armed) panel) (λ on. cc) (λ stop. cc stop);
+      stands = written_back host old new h next stands serves write_back refl (ap (λ p. p.unit) panel) (ap (λ p. p.power) panel) (ap (λ p. p.cut_armed) panel) (ap (λ p. p.fail_armed) panel) (λ on. cc) (λ stop. cc stop);
     }
 
 -- An order to the device comes to the state where something is armed.
 comes_of_order : (host : HostState) (old new : Device) (h next : Machine) (action : Action) (order : Order) → Stands host old h → HostServes host old → WritesBack old.medium new.medium
-    → Tells (with_order order Done) old.panel new.panel → (next ≡ record h { cut_armed = next.cut_armed; fail_armed = next.fail_armed }) → new.panel.power ≡ old.panel.power
-    → new.panel.cut_armed ≡ next.cut_armed → new.panel.fail_armed ≡ next.fail_armed → Comes h action (Orders order next) Done host old new
-comes_of_order host old new h next action order stands serves write_back tells is power cut fail = record {
+    → Tells (with_order order Done) old.panel new.panel → (next ≡ record h { cut_armed = next.cut_armed; fail_armed = next.fail_armed }) → new.panel.unit ≡ old.panel.unit
+    → new.panel.power ≡ old.panel.power → new.panel.cut_armed ≡ next.cut_armed → new.panel.fail_armed ≡ next.fail_armed → Comes h action (Orders order next) Done host old new
+comes_of_order host old new h next action order stands serves write_back tells is unit power cut fail = record {
   said = with_order order Done;
   next = next;
   answers = refl;
   takes = (refl, refl);
   tells = tells;
-  stands = stands_ordered host old new h next stands serves write_back is power cut fail;
+  stands = stands_ordered host old new h next stands serves write_back is unit power cut fail;
 }
 
 pub comes_of_cut_in : (host : HostState) (old new : Device) (h : Machine) (calls : ℕ) → Stands host old h → HostServes host old → WritesBack old.medium new.medium
@@ -296,7 +303,7 @@ comes_of_cut_in host old new h calls stands serves write_back panel =
       setups = omega arith;
       disarms = refl;
     }))
-    refl (ap (λ p. p.power) panel) (ap (λ p. p.cut_armed) panel) (ap (λ p. p.fail_armed) panel ∙ stands.device.fail_armed)
+    refl (ap (λ p. p.unit) panel) (ap (λ p. p.power) panel) (ap (λ p. p.cut_armed) panel) (ap (λ p. p.fail_armed) panel ∙ stands.device.fail_armed)
 
 pub comes_of_fail_in : (host : HostState) (old new : Device) (h : Machine) (calls : ℕ) → Stands host old h → HostServes host old → WritesBack old.medium new.medium
     → new.panel ≡ after_arm_fail old.panel calls → Comes h (FailIn calls) (Orders (ForFailure calls) (record h { fail_armed = true })) Done host old new
@@ -316,7 +323,7 @@ comes_of_fail_in host old new h calls stands serves write_back panel =
       setups = omega arith;
       disarms = refl;
     }))
-    refl (ap (λ p. p.power) panel) (ap (λ p. p.cut_armed) panel ∙ stands.device.cut_armed) (ap (λ p. p.fail_armed) panel)
+    refl (ap (λ p. p.unit) panel) (ap (λ p. p.power) panel) (ap (λ p. p.cut_armed) panel ∙ stands.device.cut_armed) (ap (λ p. p.fail_armed) panel)
 
 -- A write-back comes to the state that there was.
 pub comes_of_evict : (host : HostState) (old new : Device) (h : Machine) (lines : ℕ) → Stands host old h → HostServes host old → WritesBack old.medium new.medium
@@ -337,7 +344,7 @@ comes_of_evict host old new h lines stands serves write_back panel =
       setups = omega arith;
       disarms = refl;
     }))
-    refl (ap (λ p. p.power) panel) (ap (λ p. p.cut_armed) panel ∙ stands.device.cut_armed) (ap (λ p. p.fail_armed) panel ∙ stands.device.fail_armed)
+    refl (ap (λ p. p.unit) panel) (ap (λ p. p.power) panel) (ap (λ p. p.cut_armed) panel ∙ stands.device.cut_armed) (ap (λ p. p.fail_armed) panel ∙ stands.device.fail_armed)
 
 -- What comes of a command where mode and places are right.
 pub comes_placed : (host after : HostState) (old new : Device) (h : Machine) (action : Action) (answer : Answer) → Stands host old h → ((bad_meta : List ℕ) → mode_refusal host.mode bad_meta (meaning action).needs ≡ None)

@@ -68,7 +68,7 @@ is_down modes.Stopped = false
 pub record StaysOff (starts : List Start) (host after : HostState) (old new : Device) : Type 0 where
   pub same : after ≡ host
   pub none : starts ≡ []
-  pub lines : Waits old.medium new.medium
+  pub lines : Waits old.panel.unit old.medium new.medium
 
 -- There was no memory for a settling: a mount was to come and is to come, and at most one restart was done, or refused, after which
 -- the host is off still.

@@ -30,13 +30,18 @@ use Rattle.mappings.specs.Object.{MappingsState}
 use Rattle.pm_volume.specs.Images.{EachReadsPages}
 use Rattle.pm_volume.specs.Object.{VolumeState, VolumeHolds, VolumeServes}
 
--- what callers see of a host: the sizes of its medium, its mode, and the blocks, the volume and the files that it mounted last
+-- what callers see of a host: the sizes of its medium and its survival unit, its mode, and the blocks, the volume and the files that it mounted last
 pub record HostState : Type 0 where
   pub geometry : Geometry
+  pub unit : ℕ
   pub mode : Mode
   pub blocks : BlocksState
   pub volume : VolumeState
   pub files : HeldFiles
+
+-- the sizes of a host's medium, and its survival unit
+abbrev pub medium_of : HostState → Geometry × ℕ
+medium_of host = (host.geometry, host.unit)
 
 -- whether the power is on in a mode
 abbrev pub is_powered : Mode → Bool
@@ -106,9 +111,10 @@ pub record HostServes (host : HostState) (d : Device) : Type 0 where
 abbrev pub IsFlushed : Medium → Type 0
 IsFlushed m = (p : ℕ) → p / 8 < m.count → IsOnly (last_image m p) (m.history p)
 
--- The device stands for the state: its metadata, its blocks, pages and files in each image, where no line of metadata is bad, and
+-- The device stands for the state: its unit, its metadata, its blocks, pages and files in each image, where no line of metadata is bad, and
 -- what is armed. Where an action was interrupted, they are as it may have left them.
 pub record DeviceStands (d : Device) (h : Machine) : Type 0 where
+  pub unit : d.panel.unit ≡ h.unit
   pub metadata : MetadataStands h.geometry d.medium h.bad_meta
   pub blocks : h.bad_meta ≡ [] → EachReads h.geometry d.medium (MayLeaveBlocks h.interrupted h.blocks)
   pub volume : h.bad_meta ≡ [] → EachReadsPages h.geometry d.medium (MayLeaveVolume h.geometry h.interrupted h.volume)
@@ -122,6 +128,7 @@ pub record DeviceStands (d : Device) (h : Machine) : Type 0 where
 -- and the host is in its mode, and sees its blocks, pages, files, mappings and events
 pub record Stands (host : HostState) (d : Device) (h : Machine) : Type 0 where
   pub geometry : host.geometry ≡ h.geometry
+  pub unit : host.unit ≡ h.unit
   pub mode : host.mode ≡ h.mode
   pub blocks : host.mode ≡ modes.On → blocks_of host.blocks d.medium ≡ h.blocks
   pub volume : host.mode ≡ modes.On → VolumeHolds host.volume d.medium h.volume

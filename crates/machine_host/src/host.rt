@@ -55,6 +55,7 @@ impl Model for Host {
 struct Performer {
     alloc: Global,
     geometry: Geometry,
+    unit: u64,
     mode: Mode,
     blocks: Blocks,
     volume: Volume,
@@ -66,7 +67,7 @@ impl Model for Performer {
 
     ghost Value = { HostState };
 
-    ghost view = { λ h. record { geometry = h.geometry; mode = h.mode; blocks = h.blocks; volume = h.volume; files = h.files } };
+    ghost view = { λ h. record { geometry = h.geometry; unit = h.unit; mode = h.mode; blocks = h.blocks; volume = h.volume; files = h.files } };
 }
 
 impl Host {
@@ -101,8 +102,14 @@ impl Host {
     ghost use Rattle.machine_host.specs.Keeping.{Keeps, is_refusal};
     ghost use Rattle.machine_host.specs.Responding.{IsWithin, Steps, outcome_answer};
 
-    /// The host of a device, of the sizes that its superblock has. It mounts the device, and takes its work buffer.
-    pub fn mount<D: LineDevice>(alloc: Global, device: &mut D) -> Result<Self, MountFault>
+    /// The host of a device of this survival unit, of the sizes that its superblock has. It mounts the device, and takes its work
+    /// buffer.
+    pub fn mount<D: LineDevice>(
+        alloc: Global,
+        device: &mut D,
+        unit: u64,
+    ) -> Result<Self, MountFault>
+        requires unit { unit ≡ (D.state device.old).panel.unit }
         requires some { 1 ≤ (D.state device.old).medium.count }
         requires flushed { IsFlushed (D.state device.old).medium }
         requires on { IsTrue (D.state device.old).panel.power }
@@ -125,7 +132,7 @@ impl Host {
         ensures serves { IfOk result (λ host. HostServes host (D.state device.new)) }
 
         // Where each word had one value, host and device stand for the state that is read there.
-        ensures stands { (image : Image) → Depicts (D.state device.old).medium image
+        ensures stands { (image : Image) → Depicts (D.state device.old).medium image → image.unit ≡ unit
             → IfOk result (λ host. Stands host (D.state device.new) (record (reading (geometry_told (D.state device.old).medium) image) {
               cut_armed = (D.state device.new).panel.cut_armed;
               fail_armed = (D.state device.new).panel.fail_armed;
@@ -137,6 +144,7 @@ impl Host {
         let performer = Performer {
             alloc,
             geometry: mounted.geo,
+            unit,
             mode: Mode::On,
             blocks: mounted.blocks,
             volume: mounted.volume,
@@ -156,6 +164,13 @@ impl Host {
         ensures { result ≡ self.now.geometry }
     {
         self.performer.geometry
+    }
+
+    /// The survival unit of its device, in bytes.
+    pub fn unit(&self) -> u64
+        ensures { result ≡ self.now.unit }
+    {
+        self.performer.unit
     }
 
     /// Brings the host into mode On, or Stopped where a line of metadata is bad, so that the device can be read: what is armed

@@ -53,7 +53,7 @@ mounted : (h : Machine) (image : Image) → IsUnarmed h → IsUnarmed (restarted
 unfolding reading
 mounted h image un = by_bad (bad_metadata h.geometry image.is_bad)
   where
-    by_bad : (bad : List ℕ) → IsUnarmed (record (read_with bad h.geometry image) { cut_armed = h.cut_armed; fail_armed = h.fail_armed })
+    by_bad : (bad : List ℕ) → IsUnarmed (record (read_with bad h.geometry image) { unit = image.unit; cut_armed = h.cut_armed; fail_armed = h.fail_armed })
     by_bad [] = record { cut = un.cut; failure = un.failure; settled = λ is. cc is }
     by_bad (line ∷ lines) = record { cut = un.cut; failure = un.failure; settled = λ is. cc is }
 

@@ -1,6 +1,6 @@
 -- What commands and mounts may spend of a device's calls.
 use Rattle.std.specs.Prelude.{◌+◌, ◌≤◌, ℕ}
-use Rattle.line_device.specs.Panel.{Panel, ArmsNothing, SameOrders}
+use Rattle.line_device.specs.Panel.{Panel, ArmsNothing, SameOrders, with_unit}
 
 -- counted calls and persists
 pub record Spending : Type 0 where
@@ -26,7 +26,8 @@ mount_calls = 9040
 abbrev pub mount_persists : ℕ
 mount_persists = 3408
 
--- What a mount does to a device's counts: no more counted calls and persists than these, and no order. No count falls.
+-- What a mount does to a device's counts, also after it was set up: no more counted calls and persists than these, and no order.
+-- No count falls.
 pub record Opens (old new : Panel) : Type 0 where
   pub faults : old.counts.faults ≤ new.counts.faults
   pub cuts : old.counts.cuts ≤ new.counts.cuts
@@ -34,4 +35,4 @@ pub record Opens (old new : Panel) : Type 0 where
   pub persists : new.counts.persists ≤ old.counts.persists + mount_persists
   pub setups : old.counts.setups ≤ new.counts.setups
   pub armed : ArmsNothing old new
-  pub orders : SameOrders old new
+  pub orders : SameOrders (with_unit old new.unit) new

@@ -11,9 +11,10 @@ use Rattle.script_text.specs.Action.{Action}
 use Rattle.reply_text.specs.Answer.{Answer}
 use Rattle.machine_model.specs.declared.mode.Mode.{Mode}
 
--- The files are in order of name. `bad_meta` are the bad metadata lines, rising. `interrupted` is the action that a cut or a failure interrupted.
+-- `unit` is the device's survival unit. The files are in order of name. `bad_meta` are the bad metadata lines, rising. `interrupted` is the action that a cut or a failure interrupted.
 pub record Machine : Type 0 where
   pub geometry : Geometry
+  pub unit : ℕ
   pub blocks : List Block
   pub volume : List Page
   pub files : List File

@@ -18,6 +18,6 @@ told_value None = Refused because.Unknown
 told_value (Some value) = Attribute value
 
 abbrev pub attr : List ℕ → Meaning
-attr name = record (quiet Anytime anywhere (λ h. Gives (told_value (attribute name h.geometry)) h)) {
-  reasons = λ h. record no_reasons { named = unknown (attribute name h.geometry) };
+attr name = record (quiet Anytime anywhere (λ h. Gives (told_value (attribute name h.geometry h.unit)) h)) {
+  reasons = λ h. record no_reasons { named = unknown (attribute name h.geometry h.unit) };
 }

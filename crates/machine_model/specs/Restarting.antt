@@ -17,10 +17,11 @@ use Rattle.machine_model.specs.Machine.{Machine, bad_of}
 use Rattle.machine_model.specs.Commands.{MayLeaveBlocks, MayLeaveFiles, MayLeaveVolume}
 use Rattle.machine_model.specs.Lines.{bad_metadata}
 
--- the state at rest of these blocks, pages and files, in which each bad line of a file is an event
+-- the state at rest of these blocks, pages and files, where words are kept whole, in which each bad line of a file is an event
 abbrev pub holding : Geometry → List Block → List Page → List File → Machine
 holding geometry blocks pages files = record {
   geometry = geometry;
+  unit = 8;
   blocks = blocks;
   volume = pages;
   files = files;
@@ -38,15 +39,16 @@ holding geometry blocks pages files = record {
 abbrev pub stopped_by : Geometry → List ℕ → Machine
 stopped_by geometry bad_meta = record (holding geometry [] [] []) { bad_meta = bad_meta; mode = modes.Stopped }
 
--- the state that a medium stands for, by the bad lines of its metadata
+-- the state that a medium stands for where words are kept whole, by the bad lines of its metadata
 abbrev pub read_with : List ℕ → Geometry → Image → Machine
 read_with [] geometry image =
     holding geometry (blocks_read geometry image.is_bad image.word) (read_pages (volume_line geometry) image (presence_read geometry image.word))
     (files_read geometry image)
 read_with (line ∷ lines) geometry image = stopped_by geometry (line ∷ lines)
 
+-- the state that a medium stands for
 unfoldable pub reading : Geometry → Image → Machine
-reading geometry image = read_with (bad_metadata geometry image.is_bad) geometry image
+reading geometry image = record (read_with (bad_metadata geometry image.is_bad) geometry image) { unit = image.unit }
 
 -- the machine after a restart that left this image; what is armed stays
 abbrev pub restarted : Machine → Image → Machine
@@ -72,14 +74,15 @@ pub record MayLeaveStorage (choice : Choice) (image : Image) (h : Machine) : Typ
   pub may_files : MayLeaveFiles h.mappings h.interrupted h.files files_left
   pub files : KeepsFiles choice h.geometry image files_left
 
--- What a restart may leave of a state: the same lines of metadata bad, and that of storage where there are none.
+-- What a restart may leave of a state: the same unit, the same lines of metadata bad, and that of storage where there are none.
 pub record RestartMayLeave (choice : Choice) (image : Image) (h : Machine) : Type 0 where
+  pub unit : image.unit ≡ h.unit
   pub metadata : bad_metadata h.geometry image.is_bad ≡ h.bad_meta
   pub storage : h.bad_meta ≡ [] → MayLeaveStorage choice image h
 
--- a medium of zeros
+-- a medium of zeros, where words are kept whole
 abbrev pub zero_image : ℕ → Image
-zero_image count = record { count = count; is_bad = λ _. false; is_weak = λ _. false; word = λ _. 0 }
+zero_image count = record { count = count; is_bad = λ _. false; is_weak = λ _. false; unit = 8; word = λ _. 0 }
 
 -- the machine as a run begins
 abbrev pub fresh : Geometry → Machine

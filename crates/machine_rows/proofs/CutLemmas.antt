@@ -107,7 +107,7 @@ write_lost = record {
   said = told_of_write (leaving_first Firsts 0 0) (replicate 1024 0);
   end = back (leaving_first Firsts 0 0);
   run = run_of_write (leaving_first Firsts 0 0) (replicate 1024 0) refl
-      (record { metadata = refl; storage = λ _. record { blocks = inl refl; left = struck.volume; may = refl; there = refl; volume = keeps-last Firsts (volume_line small) (leaving_first Firsts 0 0).image struck.volume refl; files_left = []; may_files = refl; files = tt } })
+      (record { unit = refl; metadata = refl; storage = λ _. record { blocks = inl refl; left = struck.volume; may = refl; there = refl; volume = keeps-last Firsts (volume_line small) (leaving_first Firsts 0 0).image struck.volume refl; files_left = []; may_files = refl; files = tt } })
       (Bytes (replicate 1024 0), refl, inl (refl, refl));
   left = refl;
   written = refl;
@@ -121,7 +121,7 @@ write_kept =
       said = told_of_write start two_blocks;
       end = back start;
       run = run_of_write start two_blocks refl
-          (record { metadata = refl; storage = λ _. record { blocks = inr refl; left = struck.volume; may = refl; there = refl; volume = keeps-last Firsts (volume_line small) start.image struck.volume refl; files_left = []; may_files = refl; files = tt } })
+          (record { unit = refl; metadata = refl; storage = λ _. record { blocks = inr refl; left = struck.volume; may = refl; there = refl; volume = keeps-last Firsts (volume_line small) start.image struck.volume refl; files_left = []; may_files = refl; files = tt } })
           (Bytes two_blocks, refl, inl (refl, refl));
       left = refl;
       written = refl;
@@ -138,7 +138,7 @@ cut_that_never_came =
       end = all.state;
       run = run_performed (fresh small) (inputs with_late_cut) (start ∷ []) (
         refl,
-        record { metadata = refl; storage = λ _. record { blocks = refl; left = (fresh small).volume; may = refl; there = refl; volume = keeps-last Lasts (volume_line small) start.image (fresh small).volume refl; files_left = []; may_files = refl; files = tt } },
+        record { unit = refl; metadata = refl; storage = λ _. record { blocks = refl; left = (fresh small).volume; may = refl; there = refl; volume = keeps-last Lasts (volume_line small) start.image (fresh small).volume refl; files_left = []; may_files = refl; files = tt } },
         refl,
       );
       left = refl;
@@ -212,6 +212,7 @@ store_in_part =
                   refl,
                   refl,
                   record {
+                    unit = refl;
                     metadata = refl;
                     storage = λ _. record {
                       blocks = refl;

@@ -175,13 +175,18 @@ may_write script turns lines may written = record {
   written = written;
 }
 
+-- bad lines, and a unit
+abbrev bad_and_unit : List ℕ → ℕ → List ℕ × ℕ
+bad_and_unit bad unit = (bad, unit)
+
 -- a restart that left the pages as they were, and these files
-pub left_by : (choice : Choice) (image : Image) (h : Machine) (files : List File) → bad_metadata h.geometry image.is_bad ≡ h.bad_meta
+pub left_by : (choice : Choice) (image : Image) (h : Machine) (files : List File) → bad_and_unit (bad_metadata h.geometry image.is_bad) image.unit ≡ bad_and_unit h.bad_meta h.unit
     → MayLeaveBlocks h.interrupted h.blocks (blocks_read h.geometry image.is_bad image.word) → MayLeaveVolume h.geometry h.interrupted h.volume h.volume
     → presence_of h.volume ≡ presence_read h.geometry image.word → pages_last (volume_line h.geometry) image h.volume ≡ true
     → MayLeaveFiles h.mappings h.interrupted h.files files → KeepsFiles choice h.geometry image files → RestartMayLeave choice image h
 left_by choice image h files metadata blocks may there last may_files keeps = record {
-  metadata = metadata;
+  unit = ap (λ (m : List ℕ × ℕ). m.1) metadata;
+  metadata = ap (λ (m : List ℕ × ℕ). m.0) metadata;
   storage = λ _. record {
     blocks = blocks;
     left = h.volume;

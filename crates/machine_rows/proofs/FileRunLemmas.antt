@@ -156,7 +156,8 @@ restart_shows shown cut fail answers later wrote =
     let one = began_restarting (struck renaming cut fail) (Restart Firsts) (Asked ListFiles ∷ []) answers later Firsts refl in
     let keeps = one.5.storage refl in
     let same : restarted (struck renaming cut fail) one.0 ≡ found one.0 =
-    ap (λ bad. record (read_with bad small one.0) { cut_armed = cut; fail_armed = fail }) one.5.metadata
+    ap (λ bad. record (read_with bad small one.0) { unit = one.0.unit; cut_armed = cut; fail_armed = fail }) one.5.metadata
+    ∙ ap (λ unit. record (read_with [] small one.0) { unit = unit; cut_armed = cut; fail_armed = fail }) one.5.unit
     ∙ ap (λ bs. record (holding small bs (pages one.0) (files_read small one.0)) { cut_armed = cut; fail_armed = fail }) keeps.blocks in
     by_end one.0 one.1 one.2 one.3 keeps (subst (λ k. Ends (mounted_answer k) k k one.1 one.2) same one.6) one.7 (sym (ap reply_text one.4) ∙ wrote)
   where

@@ -4,6 +4,7 @@ use Rattle.std.proofs.lemmas.Bool.{eqb-true, not-true, and_parts}
 use Rattle.line_device.specs.History.{newest, IsIn}
 use Rattle.line_device.specs.Panel.{Image}
 use Rattle.line_device.specs.declared.line.Choice.{Choice}
+use Rattle.line_device.proofs.TornLemmas.{may_keep-in}
 use Rattle.nvm_model.specs.Cell.{Cell, MaySurvive, KeepsCell}
 use Rattle.nvm_model.specs.Cell.Cell.{Bad, Kept}
 use Rattle.nvm_model.specs.Page.{Page, cell_in, KeepsPages}
@@ -47,11 +48,11 @@ newest-in : (x : ℕ) (xs : List ℕ) → IsIn (newest (x ∷ xs)) (x ∷ xs)
 newest-in x [] = inl refl
 newest-in x (y ∷ ys) = inr (newest-in y ys)
 
-word_kept : (choice : Choice) (image : Image) (p : ℕ) (history : List ℕ) → word_last image p history ≡ true → MaySurvive choice history (image.word p)
+word_kept : (choice : Choice) (image : Image) (p : ℕ) (history : List ℕ) → word_last image p history ≡ true → MaySurvive image.unit choice history (image.word p)
 word_kept choice image p [] e = cc
 word_kept choice image p (x ∷ xs) e =
     let same : image.word p ≡ newest (x ∷ xs) = eqb-true (image.word p) (newest (x ∷ xs)) e in
-    record { was = subst (λ v. IsIn v (x ∷ xs)) (sym same) (newest-in x xs); last = λ _. same }
+    record { was = may_keep-in image.unit (image.word p) (x ∷ xs) (subst (λ v. IsIn v (x ∷ xs)) (sym same) (newest-in x xs)); last = λ _. same }
 
 cell_kept : (choice : Choice) (image : Image) (n : ℕ) (cell : Cell) → cell_last image n cell ≡ true → KeepsCell choice image n cell
 cell_kept choice image n Bad e = e

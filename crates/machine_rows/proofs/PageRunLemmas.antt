@@ -106,7 +106,7 @@ fill_lost =
       said = told (fresh small) the_fill start (yes_or_no false) (yes_or_no false);
       end = back (fresh small) the_fill start.image;
       run = run_of_cut (fresh small) both_stored_armed the_fill start (yes_or_no false) (yes_or_no false) refl refl refl refl
-          (record { metadata = refl; storage = λ _. record { blocks = refl; left = (fresh small).volume; may = inl refl; there = refl; volume = keeps-last Firsts (volume_line small) start.image (fresh small).volume refl; files_left = []; may_files = refl; files = tt } }) refl refl;
+          (record { unit = refl; metadata = refl; storage = λ _. record { blocks = refl; left = (fresh small).volume; may = inl refl; there = refl; volume = keeps-last Firsts (volume_line small) start.image (fresh small).volume refl; files_left = []; may_files = refl; files = tt } }) refl refl;
       left = refl;
       written = refl;
     }
@@ -123,7 +123,7 @@ fill_kept =
       said = told (fresh small) the_fill start (yes_or_no true) (yes_or_no true);
       end = back (fresh small) the_fill start.image;
       run = run_of_cut (fresh small) (record both_stored { cut_armed = true }) the_fill start (yes_or_no true) (yes_or_no true) refl refl refl refl
-          (record { metadata = refl; storage = λ _. record { blocks = refl; left = left; may = may_store-among (λ n. false) 4092 (replicate 8 17) (fresh small).volume; there = refl; volume = keeps-last Firsts (volume_line small) start.image left refl; files_left = []; may_files = refl; files = tt } }) refl refl;
+          (record { unit = refl; metadata = refl; storage = λ _. record { blocks = refl; left = left; may = may_store-among (λ n. false) 4092 (replicate 8 17) (fresh small).volume; there = refl; volume = keeps-last Firsts (volume_line small) start.image left refl; files_left = []; may_files = refl; files = tt } }) refl refl;
       left = refl;
       written = refl;
     }
@@ -145,7 +145,7 @@ discard_kept =
       end = back both_stored action start.image;
       run = run_after_store (Asked (CutIn 7) ∷ Asked action ∷ Asked (Restart Firsts) ∷ Asked (VExists 0) ∷ Asked (VExists 1) ∷ []) (told both_stored action start (yes_or_no false) (yes_or_no false)) (back both_stored action start.image) refl
           (run_of_cut both_stored (record both_stored { volume = left; cut_armed = true }) action start (yes_or_no false) (yes_or_no false) refl refl refl refl
-          (record { metadata = refl; storage = λ _. record { blocks = refl; left = left; may = inr refl; there = refl; volume = keeps-last Firsts (volume_line small) start.image left refl; files_left = []; may_files = refl; files = tt } }) refl refl);
+          (record { unit = refl; metadata = refl; storage = λ _. record { blocks = refl; left = left; may = inr refl; there = refl; volume = keeps-last Firsts (volume_line small) start.image left refl; files_left = []; may_files = refl; files = tt } }) refl refl);
       left = refl;
       written = refl;
     }
@@ -160,7 +160,7 @@ discard_lost =
       end = back both_stored action start.image;
       run = run_after_store (Asked (CutIn 7) ∷ Asked action ∷ Asked (Restart Firsts) ∷ Asked (VExists 0) ∷ Asked (VExists 1) ∷ []) (told both_stored action start (yes_or_no true) (yes_or_no true)) (back both_stored action start.image) refl
           (run_of_cut both_stored (record both_stored { volume = discard 0 2 both_stored.volume; cut_armed = true }) action start (yes_or_no true) (yes_or_no true) refl refl refl refl
-          (record { metadata = refl; storage = λ _. record { blocks = refl; left = both_stored.volume; may = inl refl; there = refl; volume = keeps-last Firsts (volume_line small) start.image both_stored.volume refl; files_left = []; may_files = refl; files = tt } }) refl refl);
+          (record { unit = refl; metadata = refl; storage = λ _. record { blocks = refl; left = both_stored.volume; may = inl refl; there = refl; volume = keeps-last Firsts (volume_line small) start.image both_stored.volume refl; files_left = []; may_files = refl; files = tt } }) refl refl);
       left = refl;
       written = refl;
     }

@@ -221,7 +221,8 @@ unfolding refusal reading
 restart_shows shown cut fail answers later wrote =
     let one = began_restarting (struck cut fail) (Restart Firsts) (Asked (BRead 0 2) ∷ []) answers later Firsts refl in
     let same : restarted (struck cut fail) one.0 ≡ found one.0 =
-    ap (λ bad. record (read_with bad small one.0) { cut_armed = cut; fail_armed = fail }) one.5.metadata ∙ no_files one.0 (one.5.storage refl) in
+    ap (λ bad. record (read_with bad small one.0) { unit = one.0.unit; cut_armed = cut; fail_armed = fail }) one.5.metadata
+    ∙ ap (λ unit. record (read_with [] small one.0) { unit = unit; cut_armed = cut; fail_armed = fail }) one.5.unit ∙ no_files one.0 (one.5.storage refl) in
     by_end one.0 one.1 one.2 one.3 (one.5.storage refl) (subst (λ k. Ends (mounted_answer k) k k one.1 one.2) same one.6) one.7 (sym (ap reply_text one.4) ∙ wrote)
   where
     pages : Image → List Page

@@ -10,5 +10,6 @@ pub mod FlushRows
 pub mod FileErrorRows
 pub mod EventRows
 pub mod AttributeRows
+pub mod ByteRows
 pub mod PageRows
 pub mod FileActionRows

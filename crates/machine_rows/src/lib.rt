@@ -6,7 +6,7 @@ mod rows;
 
 pub use laws::unarmed_runs_are_performed;
 pub use rows::{
-    worked_attributes, worked_cuts, worked_events, worked_failures, worked_file_actions,
-    worked_file_errors, worked_files, worked_flushes, worked_mappings, worked_pages,
-    worked_scripts,
+    worked_attributes, worked_bytes, worked_cuts, worked_events, worked_failures,
+    worked_file_actions, worked_file_errors, worked_files, worked_flushes, worked_mappings,
+    worked_pages, worked_scripts,
 };

@@ -11,6 +11,7 @@ ghost use Rattle.machine_rows.specs.FlushRows.{FlushRows};
 ghost use Rattle.machine_rows.specs.FileErrorRows.{FileErrorRows};
 ghost use Rattle.machine_rows.specs.EventRows.{EventRows};
 ghost use Rattle.machine_rows.specs.AttributeRows.{AttributeRows};
+ghost use Rattle.machine_rows.specs.ByteRows.{ByteRows};
 ghost use Rattle.machine_rows.specs.FileActionRows.{FileActionRows, FileActionRuns};
 
 /// What the machine writes for the worked scripts.
@@ -75,4 +76,9 @@ pub fn worked_events()
 /// What it writes for those that ask for attributes and for write-back.
 pub fn worked_attributes()
     ensures attributes { AttributeRows }
+{}
+
+/// What it writes where the medium keeps each byte of a word independently.
+pub fn worked_bytes()
+    ensures bytes { ByteRows }
 {}

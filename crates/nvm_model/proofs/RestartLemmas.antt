@@ -2,13 +2,14 @@
 use Rattle.std.proofs.Common.{◌≡◌, ℕ, ◌+◌, ◌*◌, ◌/◌, ◌%◌, ◌<◌, Bool, true, false, cond, Option, Some, None, option_map, option_and_then, List, [], ◌∷◌, length, map, slice_get, slice_index_or, refl, sym, ap, subst, ◌∙◌, inl, arith}
 use Rattle.std.proofs.lemmas.Option.{slice_get-map, slice_get-get_or, slice_get_within}
 use Rattle.std.specs.Int.{byte_at}
-use Rattle.line_device.specs.History.{WordWritesBack, latest, newest, IsIn}
+use Rattle.line_device.specs.History.{WordWritesBack, latest, newest, MayKeep}
 use Rattle.line_device.specs.Medium.{Medium, IsHealthy, Survivors, Survives}
 use Rattle.line_device.specs.Panel.{Image}
 use Rattle.line_device.specs.Device.{Depicts}
 use Rattle.line_device.specs.declared.line.Choice.{Choice}
 use Rattle.line_device.specs.declared.line.Choice.TheVariants.{Lasts}
-use Rattle.line_device.proofs.HistoryLemmas.{word_write_back-refl, newest-word_write_back, is_in-part, is_in-latest}
+use Rattle.line_device.proofs.HistoryLemmas.{word_write_back-refl, newest-word_write_back}
+use Rattle.line_device.proofs.TornLemmas.{may_keep-in, may_keep-latest, may_keep-part}
 use Rattle.nvm_model.specs.Numbered.{list_from}
 use Rattle.nvm_model.specs.Cell.{Cell, persist_cell, flush_cell, cell_byte, read_cell, touches, CellStands, KeepsCell, MaySurvive}
 use Rattle.nvm_model.specs.Cell.Cell.{Bad, Kept}
@@ -18,17 +19,17 @@ use Rattle.nvm_model.proofs.NumberedLemmas.{slice_get-list_from, length-list_fro
 use Rattle.nvm_model.proofs.PageLemmas.{cell_of-persist, cell_of-read_pages, read_pages-there, whole-read_pages}
 
 -- what survived of a word may be left of what it stood for
-is_kept : (choice : Choice) (weak : Bool) (history old new : List ℕ) (left value : ℕ) → WordWritesBack false history old → Survives choice weak old new left
-    → new ≡ value ∷ [] → MaySurvive choice history value
-is_kept choice weak history old new left value word_write_back survives is =
+is_kept : (unit : ℕ) (choice : Choice) (weak : Bool) (history old new : List ℕ) (left value : ℕ) → WordWritesBack false history old → Survives unit choice weak old new left
+    → new ≡ value ∷ [] → MaySurvive unit choice history value
+is_kept unit choice weak history old new left value word_write_back survives is =
     let same : value ≡ left = cc (is, survives.one) in
     record {
-      was = subst (λ v. IsIn v history) {x = left} (sym same) (is_in-part left old history word_write_back.part survives.was);
+      was = subst (λ v. MayKeep unit v history) {x = left} (sym same) (may_keep-part unit left old history word_write_back.part survives.was);
       last = λ lasts. same ∙ survives.last lasts ∙ newest-word_write_back false history old word_write_back;
     }
 
 -- what the power's return left is what it may leave of a line that the device stood for
-keeps_cell : (choice : Choice) (m b : Medium) (image : Image) (line : ℕ) (cell : Cell) → CellStands m line cell → line < m.count → Survivors choice m b → Depicts b image
+keeps_cell : (choice : Choice) (m b : Medium) (image : Image) (line : ℕ) (cell : Cell) → CellStands m line cell → line < m.count → Survivors image.unit choice m b → Depicts b image
     → KeepsCell choice image line cell
 keeps_cell choice m b image line Bad stands there left depicts = depicts.bad line (omega (arith, left.count)) ∙ left.bad line ∙ stands
 keeps_cell choice m b image line (Kept weak words) stands there left depicts = (
@@ -40,7 +41,7 @@ keeps_cell choice m b image line (Kept weak words) stands there left depicts = (
       let healthy : IsHealthy m ((8 * line + w) / 8) = (omega arith, ap m.is_bad here ∙ stands.0) in
       let after : IsHealthy b ((8 * line + w) / 8) = (omega (arith, left.count), left.bad ((8 * line + w) / 8) ∙ healthy.1) in
       let word = left.words (8 * line + w) healthy in
-      is_kept choice (m.is_weak ((8 * line + w) / 8)) history _ _ word.0 (image.word (8 * line + w)) (stands.3 w history found) word.1 (depicts.words (8 * line + w) after),
+      is_kept image.unit choice (m.is_weak ((8 * line + w) / 8)) history _ _ word.0 (image.word (8 * line + w)) (stands.3 w history found) word.1 (depicts.words (8 * line + w) after),
 )
 
 -- the device stands for what a restart reads in a line
@@ -88,7 +89,7 @@ line_there pages n whole is = by_page (slice_get pages (n / 64)) refl (sym (slic
 
 -- A restart leaves what it may leave of the pages, and the lines stand for it.
 pub stand-restarted : (choice : Choice) (m b : Medium) (image : Image) (place : ℕ → ℕ) (pages : List Page) → PagesStand place m pages
-    → ((n : ℕ) (cell : Cell) → cell_of pages n ≡ Some cell → place n < m.count) → Survivors choice m b → Depicts b image
+    → ((n : ℕ) (cell : Cell) → cell_of pages n ≡ Some cell → place n < m.count) → Survivors image.unit choice m b → Depicts b image
     → KeepsPages choice place image pages × PagesStand place b (read_pages place image (presence_of pages))
 stand-restarted choice m b image place pages stand there left depicts = (
   λ n cell is. keeps_cell choice m b image (place n) cell (stand.lines n cell is) (there n cell is) left depicts,
@@ -110,7 +111,8 @@ keeps-read choice place image there n cell is =
       λ w history found.
           let small : w < 8 = omega (arith, slice_get_within (list_from (λ p. image.word p ∷ []) (8 * line) 8) w history found, length-list_from (λ p. image.word p ∷ []) (8 * line) 8) in
           let value : image.word (8 * line + w) ∷ [] ≡ history = cc (slice_get-list_from (λ p. image.word p ∷ []) (8 * line) 8 w small, found) in
-          subst (λ h. MaySurvive choice h (image.word (8 * line + w))) value (record { was = inl refl; last = λ _. refl }),
+          subst (λ h. MaySurvive image.unit choice h (image.word (8 * line + w))) value
+          (record { was = may_keep-in image.unit _ (image.word (8 * line + w) ∷ []) (inl refl); last = λ _. refl }),
     )
 
 -- a byte of words, once a restart left the last value of each
@@ -130,7 +132,7 @@ last_byte image line i pages weak words is last =
 pub keeps-persisted : (choice : Choice) (place : ℕ → ℕ) (image : Image) (start len i : ℕ) (pages : List Page) (words : List (List ℕ)) → cell_of pages (i / 64) ≡ Some (Kept false words)
     → length words ≡ 8 → touches start len (i / 64) ≡ true → KeepsPages choice place image (persist start len pages)
     → byte_at (i % 8) (image.word (8 * place (i / 64) + (i % 64) / 8)) ≡ byte_in pages i
-keeps-persisted choice place image start len i pages words is size touched keeps = last_byte image (place (i / 64)) i pages false words is (is_in-latest _ history kept.was)
+keeps-persisted choice place image start len i pages words is size touched keeps = last_byte image (place (i / 64)) i pages false words is (may_keep-latest image.unit _ history kept.was)
   where
     history : List ℕ
     history = slice_index_or words ((i % 64) / 8) []
@@ -143,7 +145,7 @@ keeps-persisted choice place image start len i pages words is size touched keeps
     found : slice_get (map latest words) ((i % 64) / 8) ≡ Some (latest history)
     found = slice_get-map latest words ((i % 64) / 8) ∙ ap (option_map latest) (slice_get-get_or words ((i % 64) / 8) [] (omega (arith, size)))
 
-    kept : MaySurvive choice (latest history) (image.word (8 * place (i / 64) + (i % 64) / 8))
+    kept : MaySurvive image.unit choice (latest history) (image.word (8 * place (i / 64) + (i % 64) / 8))
     kept = (keeps (i / 64) _ flushed_cell).2 ((i % 64) / 8) (latest history) found
 
 -- A restart that is asked to keeps all last values.

@@ -3,7 +3,7 @@ use Rattle.std.specs.Prelude.{◌≡◌, ◌+◌, ◌*◌, ◌/◌, ◌%◌, ◌
 use Rattle.std.specs.Int.{byte_at}
 use Rattle.std.specs.List.{range_with_len}
 use Rattle.nvm_base.specs.Units.{units_of}
-use Rattle.line_device.specs.History.{latest, newest, IsIn}
+use Rattle.line_device.specs.History.{latest, newest, MayKeep}
 use Rattle.line_device.specs.Medium.{Medium, word_stored}
 use Rattle.line_device.specs.History.{WordWritesBack}
 use Rattle.line_device.specs.Panel.{Image}
@@ -77,9 +77,9 @@ cell_byte (Kept weak words) i = byte_at (i % 8) (newest (slice_index_or words (i
 abbrev pub read_cell : Image → ℕ → Cell
 read_cell image n = if image.is_bad n then Bad else Kept (image.is_weak n) (list_from (λ p. image.word p ∷ []) (8 * n) 8)
 
--- what a restart may leave of a word: one of its values, the last one where that was asked for
-pub record MaySurvive (choice : Choice) (history : List ℕ) (value : ℕ) : Type 0 where
-  pub was : IsIn value history
+-- what a restart of this unit may leave of a word: one of its values, or byte by byte, the last one where that was asked for
+pub record MaySurvive (unit : ℕ) (choice : Choice) (history : List ℕ) (value : ℕ) : Type 0 where
+  pub was : MayKeep unit value history
   pub last : choice ≡ Lasts → value ≡ newest history
 
 -- what a restart may leave of line n
@@ -87,7 +87,7 @@ abbrev pub KeepsCell : Choice → Image → ℕ → Cell → Type 0
 KeepsCell choice image n Bad = image.is_bad n ≡ true
 KeepsCell choice image n (Kept weak words) =
     (image.is_bad n ≡ false) × (image.is_weak n ≡ weak)
-    × ((w : ℕ) (history : List ℕ) → slice_get words w ≡ Some history → MaySurvive choice history (image.word (8 * n + w)))
+    × ((w : ℕ) (history : List ℕ) → slice_get words w ≡ Some history → MaySurvive image.unit choice history (image.word (8 * n + w)))
 
 -- The device's line stands for the cell: bad or weak where the cell is, and each word's history is that of the cell but for
 -- values that were written back or forgotten.

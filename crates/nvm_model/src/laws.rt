@@ -43,7 +43,7 @@ pub fn lines_and_pages_keep_step()
     ensures write_back { (place : ℕ → ℕ) (old new : Medium) (pages : List Page) → PagesStand place old pages → WritesBack old new
         → PagesStand place new pages }
     ensures restart { (choice : Choice) (old new : Medium) (image : Image) (place : ℕ → ℕ) (pages : List Page) → PagesStand place old pages
-        → ((n : ℕ) (cell : Cell) → cell_of pages n ≡ Some cell → place n < old.count) → Survivors choice old new → Depicts new image
+        → ((n : ℕ) (cell : Cell) → cell_of pages n ≡ Some cell → place n < old.count) → Survivors image.unit choice old new → Depicts new image
         → KeepsPages choice place image pages × PagesStand place new (read_pages place image (presence_of pages)) }
     ensures persisted { (m : Medium) (n : ℕ) (cell : Cell) → CellStands m n cell → CellStands (persisted m n) n (flush_cell cell) }
 {}

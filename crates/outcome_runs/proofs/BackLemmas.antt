@@ -20,6 +20,7 @@ use Rattle.machine_model.specs.Settling.{disarmed}
 use Rattle.durable.specs.Durable.{HasNothing, IsComplete, IsCounted}
 use Rattle.durable.proofs.FileThereLemmas.{lines-files_left}
 use Rattle.durable.proofs.ThereLemmas.{lines-left}
+use Rattle.durable.proofs.StepLemmas.{unit_run}
 use Rattle.durable.proofs.WholeLemmas.{length-left, pages-left, whole-run}
 use Rattle.outcomes.specs.Blocks.{BlockRead}
 use Rattle.outcomes.specs.Files.{FileRead}
@@ -116,8 +117,8 @@ looked_at h program look s g began looked = record {
 module _ (volume_found : (off : Machine) (reads : List PageRead) → IsComplete off → HaveValues off.volume → volume_may_show off reads ≡ true → VolumeOutcome off reads)
     (blocks_found : (off : Machine) (reads : List BlockRead) → blocks_may_show off reads ≡ true → BlocksOutcome off reads)
     (files_found : (off : Machine) (reads : List FileRead) → IsComplete off → FilesHaveValues off → files_may_show off reads ≡ true → FilesOutcome off reads) where
-  finds : (h : Machine) (program : List Input) (look : List Seen) → IsComplete (armed h) → Stopped look (armed h) program → Finds h program look
-  finds h program look complete s =
+  finds : (h : Machine) (program : List Input) (look : List Seen) → h.unit ≡ 8 → IsComplete (armed h) → Stopped look (armed h) program → Finds h program look
+  finds h program look by_words complete s =
       let off : Machine = s.off in
       let whole : IsComplete off = whole-run (s.before ++ Asked Cut ∷ []) (armed h) off s.said complete s.ran in
       let parts = and_parts (volume_may_show off (volume_reads look)) (blocks_may_show off (block_reads look) && files_may_show off (file_reads look)) s.shows in
@@ -134,7 +135,7 @@ module _ (volume_found : (off : Machine) (reads : List PageRead) → IsComplete 
       (files_shown off.geometry blocks.left pages files.files (file_reads look) (files.shown blocks.left pages)) in
       let storable = stored off whole s.kept s.makes s.metadata (volume_reads look) (block_reads look) (file_reads look) volume blocks files in
       let may = may_be off whole s.kept s.makes s.metadata (volume_reads look) (block_reads look) (file_reads look) volume blocks files in
-      let began = run-back (disarmed off) blocks.left pages all s.kept.valid storable s.metadata may (restarts off s.mode) in
+      let began = run-back (disarmed off) blocks.left pages all s.kept.valid storable (unit_run (s.before ++ Asked Cut ∷ []) (armed h) off s.said s.ran ∙ by_words) s.metadata may (restarts off s.mode) in
       looked_at h program look s g began (look_heard g look shown)
 
   -- a cut that is armed changes nothing of that
@@ -156,7 +157,7 @@ module _ (volume_found : (off : Machine) (reads : List PageRead) → IsComplete 
 
   goes_armed : (h : Machine) → IsReady h → IsKept h → GoesOn (armed h)
   goes_armed h ready kept = record {
-    ready = record { whole = complete_armed h ready.whole; mode = ready.mode; settled = ready.settled; metadata = ready.metadata; failures = ready.failures };
+    ready = record { whole = complete_armed h ready.whole; unit = ready.unit; mode = ready.mode; settled = ready.settled; metadata = ready.metadata; failures = ready.failures };
     kept = record { valid = kept.valid; blocks = kept.blocks; values = kept.values; file_values = kept.file_values; listed = kept.listed };
     armed = refl;
   }
@@ -165,4 +166,4 @@ module _ (volume_found : (off : Machine) (reads : List PageRead) → IsComplete 
       → Finds h program look
   is_found h program look ready kept of_program right may =
       let goes = goes_armed h ready kept in
-      finds h program look goes.ready.whole (stopped look program (armed h) goes of_program right may)
+      finds h program look ready.unit goes.ready.whole (stopped look program (armed h) goes of_program right may)

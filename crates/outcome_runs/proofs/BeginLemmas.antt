@@ -1,5 +1,5 @@
 -- States that a program may begin in: what is read from an image in which nothing is wrong, and the machine as a run begins.
-use Rattle.std.proofs.Common.{◌≡◌, ℕ, ◌<◌, false, Option, Some, None, List, [], refl, sym, ap, subst, arith}
+use Rattle.std.proofs.Common.{◌≡◌, ℕ, ◌<◌, false, Option, Some, None, List, [], refl, sym, ap, ◌∙◌, subst, arith}
 use Rattle.std.specs.Option.{option_or}
 use Rattle.line_device.specs.Panel.{Image}
 use Rattle.word_tables.specs.declared.geometry.Geometry.{Geometry}
@@ -36,17 +36,19 @@ module _ (geo : Geometry) (image : Image) (valid : IsValid geo) (count : image.c
   }
 
   ready_read : IsComplete (read_with [] geo image) → IsReady (read_with [] geo image)
-  ready_read whole = record { whole = whole; mode = refl; settled = refl; metadata = refl; failures = refl }
+  ready_read whole = record { whole = whole; unit = refl; mode = refl; settled = refl; metadata = refl; failures = refl }
 
-  reading_is : bad_metadata geo image.is_bad ≡ [] → reading geo image ≡ read_with [] geo image
+  reading_is : image.unit ≡ 8 → bad_metadata geo image.is_bad ≡ [] → reading geo image ≡ read_with [] geo image
   unfolding reading
-  reading_is good = ap (λ (lines : List ℕ). read_with lines geo image) good
+  reading_is by_words good =
+      ap (λ (lines : List ℕ). record (read_with lines geo image) { unit = image.unit }) good
+      ∙ ap (λ (unit : ℕ). record (read_with [] geo image) { unit = unit }) by_words
 
-  pub read_kept : bad_metadata geo image.is_bad ≡ [] → wrong_file_place geo image.word ≡ None → IsReady (reading geo image) × IsKept (reading geo image)
-  read_kept good none =
+  pub read_kept : image.unit ≡ 8 → bad_metadata geo image.is_bad ≡ [] → wrong_file_place geo image.word ≡ None → IsReady (reading geo image) × IsKept (reading geo image)
+  read_kept by_words good none =
       let right = second_none (first_wrong (file_area geo) image.word) (wrong_table geo (words_read geo image.word)) none in
       let are = right_tables geo (words_read geo image.word) valid (words_all geo image.word) right in
-      let is = reading_is good in
+      let is = reading_is by_words good in
       let whole = whole-reading geo image (read_with [] geo image) (ap (λ (m : Machine). record m { cut_armed = false; fail_armed = false }) (sym is)) in
       subst (λ (h : Machine). IsReady h × IsKept h) (sym is) (ready_read whole, kept_tables are)
 

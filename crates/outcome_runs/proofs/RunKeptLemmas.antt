@@ -27,7 +27,7 @@ use Rattle.durable.specs.Durable.{HasNothing, IsComplete}
 use Rattle.durable.proofs.RefusalLemmas.{is_on}
 use Rattle.durable.proofs.StepKinds.{Alters, Idles, Remounts, Returns, Step, Stops, blocks_after, files_made, volume_after}
 use Rattle.durable.proofs.StepKinds.Step.{idles, alters, stops, returns, remounts, empties}
-use Rattle.durable.proofs.StepLemmas.{geometry_step, nothing_step, step_of}
+use Rattle.durable.proofs.StepLemmas.{geometry_step, nothing_step, step_of, unit_run}
 use Rattle.durable.proofs.WholeLemmas.{whole-run, whole-step}
 use Rattle.outcomes.specs.Finds.{IsReady}
 use Rattle.outcomes.specs.Outcome.{AllHaveValues}
@@ -182,4 +182,4 @@ pub run_ready : (start : Machine) (inputs : List Input) (said : Transcript) (h :
     → IsReady h
 run_ready start inputs said h ready run on good safe =
     let whole = whole-run inputs start h said ready.whole run in
-    record { whole = whole; mode = on; settled = whole.settled on; metadata = good; failures = safe }
+    record { whole = whole; unit = unit_run inputs start h said run ∙ ready.unit; mode = on; settled = whole.settled on; metadata = good; failures = safe }

@@ -20,11 +20,11 @@ ghost use Rattle.outcome_runs.specs.Kept.{IsKept};
 
 use outcomes::{what_is_found_may_be_found, what_may_be_shown_is_left, worked_questions};
 
-/// A state as a run begins is kept, what a mount finds nothing wrong with is, and so is each state that a run comes to from such a
+/// Where words are kept whole: a state as a run begins is kept, what a mount finds nothing wrong with is, and so is each state that a run comes to from such a
 /// state, whatever is cut, fails, and is restarted or recovered.
 pub fn runs_keep_states()
     ensures fresh { (geo : Geometry) → IsValid geo → IsReady (fresh geo) × IsKept (fresh geo) }
-    ensures mounted { (geo : Geometry) (image : Image) → IsValid geo → image.count ≡ total_lines geo → bad_metadata geo image.is_bad ≡ []
+    ensures mounted { (geo : Geometry) (image : Image) → IsValid geo → image.count ≡ total_lines geo → image.unit ≡ 8 → bad_metadata geo image.is_bad ≡ []
         → wrong_file_place geo image.word ≡ None → IsReady (reading geo image) × IsKept (reading geo image) }
     ensures later { (start : Machine) (inputs : List Input) (said : Transcript) (h : Machine) → IsReady start → IsKept start → BringRight inputs
         → Run start inputs said h → IsKept h }

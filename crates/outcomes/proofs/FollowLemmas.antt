@@ -1,5 +1,6 @@
 -- What a command of a program leaves of mode, metadata and what is armed, whatever it does to the storage.
-use Rattle.std.proofs.Common.{◌≡◌, ◌⊎◌, inl, inr, ℕ, ◌+◌, Bool, true, false, Option, Some, None, List, [], ◌∷◌, IsTrue, refl, if◌then◌else◌}
+use Rattle.std.proofs.Common.{◌≡◌, ◌⊎◌, inl, inr, ℕ, ◌+◌, Bool, true, false, Option, Some, None, List, [], ◌∷◌, IsTrue, refl, ap, if◌then◌else◌}
+use Rattle.machine_model.specs.declared.mode.Mode.{Mode}
 use Rattle.nvm_base.specs.declared.units.Span.{Span}
 use Rattle.nvm_model.specs.Mappings.{is_shared, mapping_of}
 use Rattle.nvm_model.specs.Storage.{Mapping}
@@ -19,6 +20,7 @@ use Rattle.outcomes.specs.Stops.{is_of_program}
 
 -- it is on still, nothing is interrupted, no metadata is bad, no failure is armed, and a cut is, where it was so before
 pub record Keeps (h to : Machine) : Type 0 where
+  pub unit : to.unit ≡ h.unit
   pub mode : to.mode ≡ h.mode
   pub interrupted : to.interrupted ≡ h.interrupted
   pub metadata : to.bad_meta ≡ h.bad_meta
@@ -56,9 +58,14 @@ Idles h Recovers = ⊥
 abbrev pub OfProgram : Machine → Action → Type 0
 OfProgram h action = Follows h ((meaning action).comes h) × (((meaning action).needs ≡ Usable) ⊎ Idles h ((meaning action).comes h))
 
-keeps : (h to : Machine) → to.mode ≡ h.mode → to.interrupted ≡ h.interrupted → to.bad_meta ≡ h.bad_meta → to.fail_armed ≡ h.fail_armed
+-- the mode of a state, and the unit of its device
+abbrev mode_of : Machine → Mode × ℕ
+mode_of h = (h.mode, h.unit)
+
+keeps : (h to : Machine) → mode_of to ≡ mode_of h → to.interrupted ≡ h.interrupted → to.bad_meta ≡ h.bad_meta → to.fail_armed ≡ h.fail_armed
     → (h.cut_armed ≡ true → to.cut_armed ≡ true) → Keeps h to
-keeps h to mode interrupted metadata failures armed = record { mode = mode; interrupted = interrupted; metadata = metadata; failures = failures; armed = armed }
+keeps h to mode interrupted metadata failures armed =
+    record { unit = ap (λ (m : Mode × ℕ). m.1) mode; mode = ap (λ (m : Mode × ℕ). m.0) mode; interrupted = interrupted; metadata = metadata; failures = failures; armed = armed }
 
 pub rests : (h : Machine) → Rests h h
 rests h = record { geometry = refl; blocks = refl; volume = refl; files = refl; mappings = refl; interrupted = refl; metadata = refl; mode = refl }

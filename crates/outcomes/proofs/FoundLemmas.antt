@@ -22,6 +22,7 @@ use Rattle.durable.specs.Durable.{HasNothing, IsComplete, IsCounted}
 use Rattle.durable.proofs.FileThereLemmas.{lines-files_left, lines-named}
 use Rattle.durable.proofs.NamedPageLemmas.{named-read}
 use Rattle.durable.proofs.ThereLemmas.{lines-left}
+use Rattle.durable.proofs.StepLemmas.{unit_run}
 use Rattle.durable.proofs.WholeLemmas.{whole-run}
 use Rattle.outcomes.specs.Blocks.{BlockRead, all_numbers_read, block_fits, is_block_reply}
 use Rattle.outcomes.specs.Files.{reads_of}
@@ -63,7 +64,7 @@ same_show look place off left shows =
     ∙ ap (λ f. show_of look place.geometry place.mappings place.interrupted place.volume place.blocks f) left.files) ∙ shows
 
 -- what a restart left may be shown
-module _ (off : Machine) (look : List Seen) (image : Image) (choice : Choice) (whole : IsComplete off) (storage : MayLeaveStorage choice image (disarmed off))
+module _ (off : Machine) (look : List Seen) (image : Image) (choice : Choice) (by_words : image.unit ≡ 8) (whole : IsComplete off) (storage : MayLeaveStorage choice image (disarmed off))
     (all : AllShown (held off image) look) where
   volume_shows : (list_all (is_reply (4096 * off.geometry.vpages)) (volume_reads look)
       && volume_may_pass off.geometry off.interrupted (line_fits (volume_reads look)) off.volume (all_lines_read (volume_reads look))) ≡ true
@@ -72,7 +73,7 @@ module _ (off : Machine) (look : List Seen) (image : Image) (choice : Choice) (w
       and_from _ _ (loads_right off.geometry image look all)
       (left_passes (volume_reads look) off.geometry off.interrupted off.volume storage.left storage.may (λ n.
       fits (held off image).volume (volume_reads look) n (cell_of storage.left n) (pages_answered off.geometry image look all)
-      (survives choice image (volume_line off.geometry) (presence_read off.geometry image.word) storage.left lines storage.there storage.volume n))
+      (survives choice image by_words (volume_line off.geometry) (presence_read off.geometry image.word) storage.left lines storage.there storage.volume n))
       (all_lines_read (volume_reads look)))
 
   blocks_show : (list_all (is_block_reply off.geometry.blocks) (block_reads look)
@@ -91,7 +92,7 @@ module _ (off : Machine) (look : List Seen) (image : Image) (choice : Choice) (w
       fits (pages_named name (held off image).files) (reads_of name (file_reads look)) n (cell_of (pages_named name storage.files_left) n)
       (files_answered off.geometry image name look all)
       (subst (λ p. Survives (cell_of (pages_named name storage.files_left) n) (cell_of p n)) (sym read.is)
-      (survives choice image read.place (presence_of (pages_named name storage.files_left)) (pages_named name storage.files_left) lines refl read.keeps n))
+      (survives choice image by_words read.place (presence_of (pages_named name storage.files_left)) (pages_named name storage.files_left) lines refl read.keeps n))
 
   files_show : files_may_pass off.mappings off.interrupted (file_reads look) off.files ≡ true
   files_show =
@@ -124,7 +125,7 @@ pub found : (h : Machine) (program : List Input) (look : List Seen) → IsReady 
 found h program look ready of_program f =
     ap (λ p. list_any (may_show look) (stops (armed h) p)) f.split
     ∙ stop_of (may_show look) f.before f.after (armed h) f.off f.said
-    (record { whole = whole-armed h ready.whole; mode = ready.mode; settled = ready.settled; metadata = ready.metadata; failures = ready.failures })
+    (record { whole = whole-armed h ready.whole; unit = ready.unit; mode = ready.mode; settled = ready.settled; metadata = ready.metadata; failures = ready.failures })
     (subst IsProgram f.split of_program) f.ran passes
   where
     whole : IsComplete f.off
@@ -133,6 +134,7 @@ found h program look ready of_program f =
     passes : (place : Machine) → Leaves place f.off → may_show look place ≡ true
     passes place left =
         let run = f.looked in
-        let back = mounted f.off f.choice f.bad (answers look) run.0 run.1 run.2 left.metadata run.4 (sym (ap (λ s. s.answers) run.3) ∙ f.shown) in
+        let words = unit_run (f.before ++ Asked Cut ∷ []) (armed h) f.off f.said f.ran ∙ ready.unit in
+        let back = mounted f.off f.choice f.bad (answers look) run.0 run.1 run.2 words left.metadata run.4 (sym (ap (λ s. s.answers) run.3) ∙ f.shown) in
         let all = look_shown (held f.off back.0) refl refl look run.1 f.end (subst (λ m. Run m (asked look) run.1 f.end) back.2 run.5) back.3 in
-        same_show look place f.off left (storage_shows f.off look back.0 f.choice whole (back.1.storage left.metadata) all)
+        same_show look place f.off left (storage_shows f.off look back.0 f.choice (back.1.unit ∙ words) whole (back.1.storage left.metadata) all)

@@ -70,15 +70,15 @@ not_stopped : (by : Interruption) (bad : ℕ) → interrupted_answer by ≡ Done
 not_stopped Failed bad is = cc is
 not_stopped Lost bad is = cc is
 
-read_is : (geo : Geometry) (image : Image) → bad_metadata geo image.is_bad ≡ [] → reading geo image ≡ read_with [] geo image
+read_is : (geo : Geometry) (image : Image) → image.unit ≡ 8 → bad_metadata geo image.is_bad ≡ [] → reading geo image ≡ read_with [] geo image
 unfolding reading
-read_is geo image none = ap (λ b. read_with b geo image) none
+read_is geo image words none = ap (λ b. record (read_with b geo image) { unit = image.unit }) none ∙ ap (λ u. record (read_with [] geo image) { unit = u }) words
 
 -- a restart that was mounted, and what follows it
-pub mounted : (off : Machine) (choice : Choice) (bad : ℕ) (others : List Answer) (first rest : Transcript) (next : Machine) → off.bad_meta ≡ []
+pub mounted : (off : Machine) (choice : Choice) (bad : ℕ) (others : List Answer) (first rest : Transcript) (next : Machine) → off.unit ≡ 8 → off.bad_meta ≡ []
     → Takes (disarmed off) (Restart choice) (fate (disarmed off) (Restart choice)) first next → first.answers ++ rest.answers ≡ DoneBad bad ∷ others
     → (image : Image) × (RestartMayLeave choice image (disarmed off)) × (next ≡ held off image) × (rest.answers ≡ others)
-mounted off choice bad others first rest next good takes told = by_refusal (refusal (disarmed off) (Restart choice)) refl takes
+mounted off choice bad others first rest next words good takes told = by_refusal (refusal (disarmed off) (Restart choice)) refl takes
   where
     by_refusal : (o : Option Answer) → refusal (disarmed off) (Restart choice) ≡ o
         → Takes (disarmed off) (Restart choice) (unless_refused (disarmed off) o ((meaning (Restart choice)).comes (disarmed off))) first next
@@ -96,7 +96,7 @@ mounted off choice bad others first rest next good takes told = by_refusal (refu
           | inl end ↦ (
             image,
             took.4,
-            end.1 ∙ ap (λ (m : Machine). record m { cut_armed = false; fail_armed = false }) (read_is off.geometry image (took.4.metadata ∙ good)),
+            end.1 ∙ ap (λ (m : Machine). record m { cut_armed = false; fail_armed = false }) (read_is off.geometry image (took.4.unit ∙ words) (took.4.metadata ∙ good)),
             others_told,
           )
           | inr end ↦ absurd (not_stopped end.0 bad (sym end.1 ∙ same))

@@ -4,7 +4,7 @@ use Rattle.std.proofs.lemmas.Bool.{and_from, eq-eqb}
 use Rattle.std.proofs.lemmas.Option.{get_or_from_slice_get}
 use Rattle.std.proofs.lemmas.Slice.Eq.{bytes_eq-Decides}
 use Rattle.std.specs.Str.{bytes_eq}
-use Rattle.line_device.specs.History.{IsIn}
+use Rattle.line_device.specs.History.{IsIn, MayKeep}
 use Rattle.line_device.specs.Panel.{Image}
 use Rattle.line_device.specs.declared.line.Choice.{Choice}
 use Rattle.nvm_model.specs.Cell.{Cell, KeepsCell, read_cell, touches}
@@ -30,7 +30,7 @@ some_at [] i lt = absurd (omega (arith, lt))
 some_at (x ∷ xs) zero lt = (x, refl)
 some_at (x ∷ xs) (suc i) lt = some_at xs i (omega (arith, lt))
 
-module _ (choice : Choice) (image : Image) where
+module _ (choice : Choice) (image : Image) (by_words : image.unit ≡ 8) where
   -- one line
   cell_survives : (line : ℕ) (cell : Cell) → IsLineThere (Some cell) → KeepsCell choice image line cell → Survives (Some cell) (Some (read_cell image line))
   cell_survives line Bad there kept =
@@ -41,7 +41,7 @@ module _ (choice : Choice) (image : Image) where
       each : (w : ℕ) → w < 8 → (v : ℕ) × IsIn v (slice_index_or words w []) × (slice_index_or (list_from (λ p. image.word p ∷ []) (8 * line) 8) w [] ≡ v ∷ [])
       each w lt =
           let history = some_at words w (omega (arith, lt, there)) in
-          let was = (kept.2 w history.0 history.1).was in (
+          let was = subst (λ u. MayKeep u (image.word (8 * line + w)) history.0) by_words (kept.2 w history.0 history.1).was in (
             image.word (8 * line + w),
             subst (λ h. IsIn (image.word (8 * line + w)) h) (sym (get_or_from_slice_get words w history.0 [] history.1)) was,
             get_or_from_slice_get (list_from (λ p. image.word p ∷ []) (8 * line) 8) w (image.word (8 * line + w) ∷ []) [] (slice_get-list_from (λ p. image.word p ∷ []) (8 * line) 8 w lt),

@@ -147,6 +147,7 @@ lost_leaves h next off action ready lost at = record {
 pub ready_at : (h to : Machine) → IsReady h → IsComplete to → Keeps h to → IsReady to
 ready_at h to ready whole kept = record {
   whole = whole;
+  unit = kept.unit ∙ ready.unit;
   mode = kept.mode ∙ ready.mode;
   settled = kept.interrupted ∙ ready.settled;
   metadata = kept.metadata ∙ ready.metadata;
@@ -219,4 +220,4 @@ module _ (test : Machine → Bool) where
       by_refusal : Others → (o : Option Answer) → Takes h action (unless_refused h o ((meaning action).comes h)) run.0 next
           → list_any test (h ∷ inside h action (unless_refused h o ((meaning action).comes h)) ++ stops (led_to h (unless_refused h o ((meaning action).comes h))) (before ++ after)) ≡ true
       by_refusal others None takes = by_fate others ((meaning action).comes h) (of_program h action program.0).0 takes
-      by_refusal others (Some answer) takes = by_fate others (Gives answer h) (record { mode = refl; interrupted = refl; metadata = refl; failures = refl; armed = λ on. on }) takes
+      by_refusal others (Some answer) takes = by_fate others (Gives answer h) (record { unit = refl; mode = refl; interrupted = refl; metadata = refl; failures = refl; armed = λ on. on }) takes

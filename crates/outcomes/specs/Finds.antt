@@ -18,9 +18,10 @@ use Rattle.outcomes.specs.Stops.{stops}
 abbrev pub armed : Machine → Machine
 armed h = record h { cut_armed = true }
 
--- The storage is mounted, and whole, as a run leaves it; nothing is interrupted, and no failure is armed.
+-- The storage is mounted, and whole, as a run leaves it; a cut keeps words whole; nothing is interrupted, and no failure is armed.
 pub record IsReady (h : Machine) : Type 0 where
   pub whole : IsComplete h
+  pub unit : h.unit ≡ 8
   pub mode : h.mode ≡ On
   pub settled : h.interrupted ≡ None
   pub metadata : h.bad_meta ≡ []

@@ -2,11 +2,11 @@
 use Rattle.std.proofs.Common.{◌≡◌, ℕ, ◌/◌, ◌<◌, ◌≤◌, true, Some, List, length, slice_get, sym, ap, subst, ◌∙◌, arith}
 use Rattle.std.proofs.lemmas.List.{length-map}
 use Rattle.line_device.specs.Device.{Depicts}
-use Rattle.line_device.specs.History.{IsIn, newest}
+use Rattle.line_device.specs.History.{MayKeep, newest}
 use Rattle.line_device.specs.Medium.{IsHealthy, Medium, Survivors, last_image}
 use Rattle.line_device.specs.Panel.{Image}
 use Rattle.line_device.specs.declared.line.Choice.{Choice}
-use Rattle.line_device.proofs.TornLemmas.{torn-in}
+use Rattle.line_device.proofs.TornLemmas.{may_keep-torn}
 use Rattle.line_words.specs.Words.{WritesBackOutside}
 use Rattle.word_tables.specs.declared.geometry.Geometry.{Geometry}
 use Rattle.word_tables.specs.Bounds.{IsValid}
@@ -32,16 +32,16 @@ use Rattle.pm_volume.proofs.ServesLemmas.{holds-same}
 use Rattle.pm_volume.proofs.StandingLemmas.{presence_read-replays}
 
 -- The start is an image of what was before.
-pub start_was : (geo : Geometry) → IsValid geo → (choice : Choice) (old back : Medium) → old.count ≡ total_lines geo → AreGood old (meta_lines geo) → Survivors choice old back
+pub start_was : (geo : Geometry) → IsValid geo → (unit : ℕ) (choice : Choice) (old back : Medium) → old.count ≡ total_lines geo → AreGood old (meta_lines geo) → Survivors unit choice old back
     → IsImageOn (volume_area geo) old (last_image back)
-start_was geo valid choice old back count good left p of =
+start_was geo valid unit choice old back count good left p of =
     let meta = area_in_metadata geo valid p of in
     let healthy : IsHealthy old (p / 8) = (omega (arith, meta, meta_within geo, count), good (p / 8) meta) in
     let word = left.words p healthy in
-    torn-in (last_image back p) (old.history p) (subst (λ v. IsIn v (old.history p)) (sym (ap newest word.1.one)) word.1.was)
+    may_keep-torn unit (last_image back p) (old.history p) (subst (λ v. MayKeep unit v (old.history p)) (sym (ap newest word.1.one)) word.1.was)
 
 module _ (geo : Geometry) (valid : IsValid geo) (choice : Choice) (old back new : Medium) (image : Image) (count : old.count ≡ total_lines geo)
-    (good : AreGood old (meta_lines geo)) (left : Survivors choice old back) (shows : Depicts back image)
+    (good : AreGood old (meta_lines geo)) (left : Survivors image.unit choice old back) (shows : Depicts back image)
     (outside : WritesBackOutside (IsOf (volume_area geo)) back new) where
   module _ (P : List Page → Type 0) (found : ReadsPages geo old P (last_image back)) where
     all_there : length (presence_of found.pages) ≡ geo.vpages
@@ -56,7 +56,7 @@ module _ (geo : Geometry) (valid : IsValid geo) (choice : Choice) (old back new 
         (λ n cell is. let at = behind n (page_of_line found.pages n cell is) in omega (arith, at.1, count)) left shows
 
     -- pages that a restart may leave, and that the volume holds once it is mounted
-    pub remounted : (s : VolumeState) → s.geo ≡ geo → s.present ≡ presence_read geo (last_image back) → (pages : List Page) × MayLeave found.pages pages × VolumeHolds s new pages
+    pub remounted : (s : VolumeState) → s.geo ≡ geo → s.present ≡ presence_read geo (last_image back) → (pages : List Page) × MayLeave image.unit found.pages pages × VolumeHolds s new pages
     remounted s sizes there =
         let pages = read_pages (volume_line geo) image (presence_of found.pages) in
         let read = presence_read-replays geo (last_image back) (presence_of found.pages) all_there found.replays in
@@ -69,9 +69,9 @@ module _ (geo : Geometry) (valid : IsValid geo) (choice : Choice) (old back new 
         )
 
   -- so what holds of all that a restart may leave, holds of them
-  pub remounted-each : (P : List Page → Type 0) → EachLeft geo old P → (s : VolumeState) → s.geo ≡ geo → s.present ≡ presence_read geo (last_image back)
+  pub remounted-each : (P : List Page → Type 0) → EachLeft image.unit geo old P → (s : VolumeState) → s.geo ≡ geo → s.present ≡ presence_read geo (last_image back)
       → (pages : List Page) × P pages × VolumeHolds s new pages
   remounted-each P each s sizes there =
-      let found = each (last_image back) (start_was geo valid choice old back count good left) in
-      let after = remounted (λ pages. (later : List Page) → MayLeave pages later → P later) found s sizes there in
+      let found = each (last_image back) (start_was geo valid image.unit choice old back count good left) in
+      let after = remounted (λ pages. (later : List Page) → MayLeave image.unit pages later → P later) found s sizes there in
       (after.0, found.is after.0 after.1, after.2)

@@ -26,8 +26,8 @@ use Rattle.pm_volume.proofs.RestartLemmas.{durable_word, restart-keeps}
 same_presence : (old new : List Page) → presence_of new ≡ presence_of old → length new ≡ length old
 same_presence old new same = sym (length-map new is_present) ∙ ap length same ∙ length-map old is_present
 
-pub length-left : (pages left : List Page) → MayLeave pages left → length left ≡ length pages
-length-left pages left may = same_presence pages left may.there
+pub length-left : (unit : ℕ) (pages left : List Page) → MayLeave unit pages left → length left ≡ length pages
+length-left unit pages left may = same_presence pages left may.there
 
 pub length-written : (n : ℕ) (bytes : List ℕ) (pages : List Page) → length (written_line n bytes pages) ≡ length pages
 length-written n bytes pages = length-persist (64 * n) 64 (stored_line n bytes pages) ∙ length-put_fill (64 * n) 64 bytes pages
@@ -103,11 +103,11 @@ record HasFirst (old new : ℕ) (o : Option Cell) : Type 0 where
   pub first : (history : List ℕ) (value : ℕ) → slice_get words 0 ≡ Some history → IsIn value history → (value ≡ old) ⊎ (value ≡ new)
 
 -- what a restart leaves of its count
-first-left : (a b : ℕ) (o p : Option Cell) → HasFirst a b o → Became LeavesCell o p
+first-left : (a b : ℕ) (o p : Option Cell) → HasFirst a b o → Became (LeavesCell 8) o p
     → (first_word p ≡ Some (word_from (λ k. byte_at k a))) ⊎ (first_word p ≡ Some (word_from (λ k. byte_at k b)))
-first-left a b o p has may = by_cell p (subst (λ c. Became LeavesCell c p) has.is may)
+first-left a b o p has may = by_cell p (subst (λ c. Became (LeavesCell 8) c p) has.is may)
   where
-    by_cell : (p : Option Cell) → Became LeavesCell (Some (Kept false has.words)) p
+    by_cell : (p : Option Cell) → Became (LeavesCell 8) (Some (Kept false has.words)) p
         → (first_word p ≡ Some (word_from (λ k. byte_at k a))) ⊎ (first_word p ≡ Some (word_from (λ k. byte_at k b)))
     by_cell None is = absurd is
     by_cell (Some Bad) is = absurd is
@@ -188,11 +188,11 @@ module _ (l : ℕ) (bytes : List ℕ) (size : length bytes ≡ 64) (old : List P
 
 -- A restart finds the old count or that of the bytes.
 pub may_write-count : (l : ℕ) (bytes : List ℕ) (old new left : List Page) → length bytes ≡ 64 → ((k : ℕ) → get_or bytes k 0 < 256)
-    → IsStrong (fill (64 * l) 64 old) l → IsDurable (cell_of old l) → MayWrite l bytes old new → MayLeave new left
+    → IsStrong (fill (64 * l) 64 old) l → IsDurable (cell_of old l) → MayWrite l bytes old new → MayLeave 8 new left
     → (first_word (cell_of left l) ≡ first_word (cell_of old l)) ⊎ (first_word (cell_of left l) ≡ Some (word_at bytes 0))
 may_write-count l bytes old new left size small strong lasts may leaves =
     elim (has-written l bytes size old strong durable h found new may) [
-      | inl same ↦ inl (ap first_word (restart-keeps new left l (subst IsDurable (sym (ap (λ (ps : List Page). cell_of ps l) same)) lasts) leaves ∙ ap (λ (ps : List Page). cell_of ps l) same))
+      | inl same ↦ inl (ap first_word (restart-keeps 8 new left l (subst IsDurable (sym (ap (λ (ps : List Page). cell_of ps l) same)) lasts) leaves ∙ ap (λ (ps : List Page). cell_of ps l) same))
       | inr has ↦
           elim (first-left (newest h) _ (cell_of new l) (cell_of left l) has (leaves.each l)) [
             | inl was ↦ inl (was ∙ sym before)

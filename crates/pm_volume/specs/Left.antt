@@ -1,6 +1,6 @@
 -- What a store, a sync or a restart may leave of lines of pages.
 use Rattle.std.specs.Prelude.{◌≡◌, ◌⊎◌, ℕ, true, false, List, [], ◌∷◌, length, map, slice_get, Option, Some, None}
-use Rattle.line_device.specs.History.{IsIn, latest}
+use Rattle.line_device.specs.History.{MayKeep, latest}
 use Rattle.line_device.specs.Medium.{Medium}
 use Rattle.word_tables.specs.declared.geometry.Geometry.{Geometry}
 use Rattle.nvm_model.specs.Cell.{Cell, zero_cell}
@@ -32,23 +32,23 @@ IsDurable None = Unit {0}
 IsDurable (Some Bad) = Unit {0}
 IsDurable (Some (Kept weak words)) = map latest words ≡ words
 
--- a word that has one of these values
-pub record IsOneOf (history word : List ℕ) : Type 0 where
+-- a word that has one value, which this unit may keep of these
+pub record IsKeptOf (unit : ℕ) (history word : List ℕ) : Type 0 where
   pub value : ℕ
-  pub was : IsIn value history
+  pub was : MayKeep unit value history
   pub is : word ≡ value ∷ []
 
--- what a restart may leave of a line, and of pages: one value of each word
-abbrev pub LeavesCell : Cell → Cell → Type 0
-LeavesCell Bad new = new ≡ Bad
-LeavesCell (Kept weak words) Bad = ⊥
-LeavesCell (Kept weak words) (Kept mark left) =
+-- what a restart of this survival unit may leave of a line, and of pages: one value of each word
+abbrev pub LeavesCell : ℕ → Cell → Cell → Type 0
+LeavesCell unit Bad new = new ≡ Bad
+LeavesCell unit (Kept weak words) Bad = ⊥
+LeavesCell unit (Kept weak words) (Kept mark left) =
     (mark ≡ weak) × (length left ≡ length words)
-    × ((w : ℕ) (history word : List ℕ) → slice_get words w ≡ Some history → slice_get left w ≡ Some word → IsOneOf history word)
+    × ((w : ℕ) (history word : List ℕ) → slice_get words w ≡ Some history → slice_get left w ≡ Some word → IsKeptOf unit history word)
 
-abbrev pub MayLeave : List Page → List Page → Type 0
-MayLeave old new = LineByLine (λ n. LeavesCell) old new
+abbrev pub MayLeave : ℕ → List Page → List Page → Type 0
+MayLeave unit old new = LineByLine (λ n. LeavesCell unit) old new
 
--- in each image this holds of all pages that a restart may leave
-abbrev pub EachLeft : Geometry → Medium → (List Page → Type 0) → Type 0
-EachLeft geo m P = EachReadsPages geo m (λ pages. (left : List Page) → MayLeave pages left → P left)
+-- in each image this holds of all pages that a restart of this unit may leave
+abbrev pub EachLeft : ℕ → Geometry → Medium → (List Page → Type 0) → Type 0
+EachLeft unit geo m P = EachReadsPages geo m (λ pages. (left : List Page) → MayLeave unit pages left → P left)

@@ -37,35 +37,35 @@ pub fn stores_and_syncs_keep_other_lines()
         → line_in (cell_of others n) ≡ line_in (cell_of pages n) }
 {}
 
-/// A restart leaves one value of each word, and what is durable as it is; all that it leaves is durable.
+/// A restart leaves of each word one value that its unit may keep, and what is durable as it is; all that it leaves is durable.
 pub fn a_restart_leaves_one_value()
     ensures pages { (choice : Choice) (place : ℕ → ℕ) (image : Image) (m : Medium) (pages : List Page) → PagesStand place m pages
-        → KeepsPages choice place image pages → MayLeave pages (read_pages place image (presence_of pages)) }
-    ensures keeps { (pages left : List Page) (n : ℕ) → IsDurable (cell_of pages n) → MayLeave pages left → cell_of left n ≡ cell_of pages n }
-    ensures durable { (pages left : List Page) (n : ℕ) → MayLeave pages left → IsDurable (cell_of left n) }
+        → KeepsPages choice place image pages → MayLeave image.unit pages (read_pages place image (presence_of pages)) }
+    ensures keeps { (unit : ℕ) (pages left : List Page) (n : ℕ) → IsDurable (cell_of pages n) → MayLeave unit pages left → cell_of left n ≡ cell_of pages n }
+    ensures durable { (unit : ℕ) (pages left : List Page) (n : ℕ) → MayLeave unit pages left → IsDurable (cell_of left n) }
 {}
 
 /// After a restart the words of the log are an image of what was before, and a mount finds pages that the restart may leave of
 /// those that this image names.
 pub fn a_mount_finds_what_was_left()
-    ensures image { (geo : Geometry) (choice : Choice) (old back : Medium) → IsValid geo → old.count ≡ total_lines geo → AreGood old (meta_lines geo)
-        → Survivors choice old back → IsImageOn (volume_area geo) old (last_image back) }
+    ensures image { (geo : Geometry) (unit : ℕ) (choice : Choice) (old back : Medium) → IsValid geo → old.count ≡ total_lines geo → AreGood old (meta_lines geo)
+        → Survivors unit choice old back → IsImageOn (volume_area geo) old (last_image back) }
     ensures pages { (geo : Geometry) (choice : Choice) (old back new : Medium) (image : Image) (before : List Page) (s : VolumeState) → IsValid geo
         → old.count ≡ total_lines geo → AreGood old (meta_lines geo) → ReadsPages geo old (λ pages. pages ≡ before) (last_image back)
-        → Survivors choice old back → Depicts back image → WritesBackOutside (IsOf (volume_area geo)) back new
+        → Survivors image.unit choice old back → Depicts back image → WritesBackOutside (IsOf (volume_area geo)) back new
         → s.geo ≡ geo → s.present ≡ presence_read geo (last_image back)
-        → (pages : List Page) × MayLeave before pages × VolumeHolds s new pages }
+        → (pages : List Page) × MayLeave image.unit before pages × VolumeHolds s new pages }
 {}
 
-/// A line that is stored and synced whole has its bytes durably, and its first word is the old one or the new one wherever that
-/// is interrupted.
+/// A line that is stored and synced whole has its bytes durably. Where words are kept whole, its first word is the old one or the
+/// new one wherever that is interrupted.
 pub fn a_line_is_written_whole()
     ensures written { (place : ℕ → ℕ) (m : Medium) (pages : List Page) (n : ℕ) (bytes : List ℕ) → PagesStand place m pages → n < 64 * length pages
         → IsSoundLine (cell_of pages n) → length bytes ≡ 64 → ((k : ℕ) → slice_index bytes k < 256)
         → (line_in (cell_of (written_line n bytes pages) n) ≡ Some bytes) × IsDurable (cell_of (written_line n bytes pages) n) }
     ensures first { (place : ℕ → ℕ) (m : Medium) (old new left : List Page) (n : ℕ) (bytes : List ℕ) → PagesStand place m old → n < 64 * length old
         → IsSoundLine (cell_of old n) → length bytes ≡ 64 → ((k : ℕ) → slice_index bytes k < 256) → IsDurable (cell_of old n)
-        → MayWrite n bytes old new → MayLeave new left
+        → MayWrite n bytes old new → MayLeave 8 new left
         → (first_word (cell_of left n) ≡ first_word (cell_of old n)) ⊎ (first_word (cell_of left n) ≡ Some (word_at bytes 0)) }
 {}
 

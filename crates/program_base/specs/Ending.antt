@@ -40,7 +40,7 @@ numbered_line text n = text ++ line (decimal n)
 
 -- the line that is written, if any
 abbrev pub ending_text : Ending → List ℕ
-ending_text Usage = line (codes "usage: new IMAGE BLOCKS VPAGES FPAGES, run IN OUT, check IN, bench SEED N")
+ending_text Usage = line (codes "usage: new IMAGE BLOCKS VPAGES FPAGES, run IN OUT, check IN, bench SEED N, newbyte IMAGE BLOCKS VPAGES FPAGES")
 ending_text (Image offset) = numbered_line (codes "error image ") offset
 ending_text (Layout place) = numbered_line (codes "error layout ") place
 ending_text (Meta at) = numbered_line (codes "error meta ") at

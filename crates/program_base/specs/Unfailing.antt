@@ -3,8 +3,9 @@ use Rattle.std.specs.Prelude.{◌≡◌, ◌⊎◌, ◌≤◌, List, ℕ, length
 use Rattle.nvm_base.specs.Counts.{Rose}
 use Rattle.host_io.specs.Images.{Held}
 use Rattle.image_file.specs.Devices.{medium_of}
+use Rattle.image_file.specs.Text.{Snapshot}
 use Rattle.image_file.specs.WrongField.{first_wrong_offset}
-use Rattle.line_device.specs.declared.line.LineState.{LineState}
+use Rattle.image_file.specs.declared.Units.{Units}
 use Rattle.recovery.specs.Findings.{first_finding}
 use Rattle.program_base.specs.Ending.{most_bytes}
 use Rattle.program_base.specs.Opening.{IsHeld}
@@ -20,13 +21,13 @@ pub record NothingFailed (old new : World) : Type 0 where
   pub device : new.left ≡ old.left
       → Rose old.device.panel.counts.faults new.device.panel.counts.faults ⊎ Rose old.device.panel.counts.cuts new.device.panel.counts.cuts → ⊥
 
--- An image is held under the name: no field of its bytes is wrong, and they are not too many; and nothing is found that is wrong
--- with the device that it tells of.
-pub record HoldsRight (name : List ℕ) (held : Option Held) : Type 0 where
+-- An image of one of these units is held under the name: no field of its bytes is wrong, and they are not too many; and nothing is
+-- found that is wrong with the device that it tells of.
+pub record HoldsRight (units : Units) (name : List ℕ) (held : Option Held) : Type 0 where
   pub look : Held
   pub told : held ≡ Some look
   pub bytes : List ℕ
   pub there : look name ≡ Some bytes
-  pub image : first_wrong_offset bytes ≡ None
+  pub image : first_wrong_offset units bytes ≡ None
   pub few : length bytes ≤ most_bytes
-  pub right : (lines : List LineState) → IsHeld name held lines → first_finding (medium_of lines) ≡ None
+  pub right : (image : Snapshot) → IsHeld units name held image → first_finding (medium_of image.lines) ≡ None

@@ -63,7 +63,7 @@ impl Ending {
         match self {
             Ending::Usage => plain_line(
                 alloc,
-                b"usage: new IMAGE BLOCKS VPAGES FPAGES, run IN OUT, check IN, bench SEED N",
+                b"usage: new IMAGE BLOCKS VPAGES FPAGES, run IN OUT, check IN, bench SEED N, newbyte IMAGE BLOCKS VPAGES FPAGES",
             ),
             Ending::Image(offset) => numbered(alloc, b"error image ", offset),
             Ending::Layout(place) => numbered(alloc, b"error layout ", place),

@@ -2,10 +2,11 @@
 use Rattle.std.proofs.Common.{◌≡◌, slice_index, ◌+◌, ◌/◌, ◌<◌, ◌≤◌, ◌*◌, ℕ, Bool, List, [], ◌∷◌, Option, Some, None, if◌then◌else◌, option_map, position, inl, inr, sym, ◌∙◌, ap, ap₂, subst, arith}
 use Rattle.std.specs.List.{range_with_len}
 use Rattle.std.proofs.lemmas.Bool.{cases_Bool}
-use Rattle.line_device.specs.History.{newest, IsIn}
+use Rattle.line_device.specs.History.{newest, IsIn, MayKeep}
 use Rattle.line_device.specs.Medium.{Medium, IsSound, Survivors, Waits, last_image}
 use Rattle.line_device.specs.declared.line.Choice.{Choice}
 use Rattle.line_device.proofs.HistoryLemmas.{newest-word_write_back, is_in-word_write_back, is_in-one}
+use Rattle.line_device.proofs.TornLemmas.{may_keep-only}
 use Rattle.line_words.specs.Words.{IsOnly, WritesBackOutside}
 use Rattle.line_words.proofs.FrameLemmas.{newest-outside, is_only-outside}
 use Rattle.nvm_model.specs.Numbered.{list_from}
@@ -28,9 +29,9 @@ not_first : (geo : Geometry) (p : ℕ) → p < 8 → IsOfLogs geo p → ⊥
 not_first geo p below of = omega (arith, below, logs_behind geo p of)
 
 -- a word that has one value now, which is an old one, where there was one alone
-was_only : (old new : List ℕ) (v : ℕ) → IsOnly (newest old) old → IsIn v old → new ≡ v ∷ [] → (newest new ≡ newest old) × IsOnly (newest new) new
-was_only old new v only was one =
-    let same : newest new ≡ newest old = ap newest one ∙ only v was in
+was_only : (unit : ℕ) (old new : List ℕ) (v : ℕ) → IsOnly (newest old) old → MayKeep unit v old → new ≡ v ∷ [] → (newest new ≡ newest old) × IsOnly (newest new) new
+was_only unit old new v only was one =
+    let same : newest new ≡ newest old = ap newest one ∙ may_keep-only unit (newest old) v old only was in
     (same, λ x at. is_in-one x v (subst (IsIn x) one at) ∙ sym (ap newest one))
 
 -- the same marks, and the same words of the first line, which are durable
@@ -107,8 +108,8 @@ goes_on-mounted old new may x keeps =
     goes_on old new start may (λ early. each_reads-kept (geometry_told old) old new (λ _. Unit {0}) (keeps early) (may.readable early))
 
 -- after a restart
-pub goes_on-restarted : (choice : Choice) (old new : Medium) → IsSound old → IsMountable old → Survivors choice old new → GoesOn old new
-goes_on-restarted choice old new sound may x =
+pub goes_on-restarted : (unit : ℕ) (choice : Choice) (old new : Medium) → IsSound old → IsMountable old → Survivors unit choice old new → GoesOn old new
+goes_on-restarted unit choice old new sound may x =
     let start : SameStart old new =
     record {
       count = x.count;
@@ -123,16 +124,16 @@ goes_on-restarted choice old new sound may x =
                 (ap newest (is ∙ sym was), λ v in_. absurd (subst (IsIn v) is in_))
             | inr good ↦
                 let word = x.words p (subst (λ n. n < old.count) (sym at) (omega (arith, may.some)), good) in
-                was_only (old.history p) (new.history p) word.0 (may.first p below) word.1.was word.1.one
+                was_only unit (old.history p) (new.history p) word.0 (may.first p below) word.1.was word.1.one
           ];
     } in
     goes_on old new start may
     (λ early. let is = told old early in
-    each_reads-restarted (geometry_told old) is.valid choice old new (λ _. Unit {0}) sound is.count x (may.readable early))
+    each_reads-restarted (geometry_told old) is.valid unit choice old new (λ _. Unit {0}) sound is.count x (may.readable early))
 
 -- after a restart that was refused
-pub goes_on-waited : (old new : Medium) → IsMountable old → Waits old new → GoesOn old new
-goes_on-waited old new may x =
+pub goes_on-waited : (unit : ℕ) (old new : Medium) → IsMountable old → Waits unit old new → GoesOn old new
+goes_on-waited unit old new may x =
     let start : SameStart old new =
     record {
       count = x.count;
@@ -143,11 +144,11 @@ goes_on-waited old new may x =
             | inl word_write_back ↦
                 let same = newest-word_write_back (old.is_weak (p / 8)) (old.history p) (new.history p) word_write_back in
                 (same, λ v at. may.first p below v (is_in-word_write_back (old.is_weak (p / 8)) v (old.history p) (new.history p) word_write_back at) ∙ sym same)
-            | inr one ↦ was_only (old.history p) (new.history p) one.0 (may.first p below) one.1 one.2
+            | inr one ↦ was_only unit (old.history p) (new.history p) one.0 (may.first p below) one.1 one.2
           ];
     } in
     goes_on old new start may
-    (λ early. each_reads-waits (geometry_told old) (told old early).valid old new (λ _. Unit {0}) x (may.readable early))
+    (λ early. each_reads-waits (geometry_told old) (told old early).valid unit old new (λ _. Unit {0}) x (may.readable early))
 
 -- blocks that can be read after any cut are durable
 pub durable_blocks : (m : Medium) → IsSound m → IsMountable m → HasDurableBlocks m

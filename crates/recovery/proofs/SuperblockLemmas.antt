@@ -5,6 +5,7 @@ use Rattle.line_device.specs.History.{IsIn}
 use Rattle.line_device.specs.Medium.{Medium, IsSound, WritesBack, Survivors, Waits, Weakens, last_image, poisoned}
 use Rattle.line_device.specs.declared.line.Choice.{Choice}
 use Rattle.line_device.proofs.HistoryLemmas.{is_in-word_write_back, is_in-one}
+use Rattle.line_device.proofs.TornLemmas.{may_keep-only}
 use Rattle.line_words.specs.Words.{IsOnly, WritesBackOutside, WritesBackBeside}
 use Rattle.line_words.proofs.FrameLemmas.{is_only-outside, is_only-write_back}
 use Rattle.line_words.proofs.BesideLemmas.{is_only-beside}
@@ -91,21 +92,21 @@ superblock-beside geo lines old new x out has p below =
 pub superblock-write_back : (geo : Geometry) (old new : Medium) → WritesBack old new → HasSuperblock geo old → HasSuperblock geo new
 superblock-write_back geo old new x has p below = is_only-write_back old new p (superblock_word geo p) x (has p below)
 
-pub superblock-restarted : (geo : Geometry) (choice : Choice) (old new : Medium) → IsSound old → 1 ≤ old.count → Survivors choice old new → HasSuperblock geo old → HasSuperblock geo new
-superblock-restarted geo choice old new sound some x has p below =
+pub superblock-restarted : (geo : Geometry) (unit : ℕ) (choice : Choice) (old new : Medium) → IsSound old → 1 ≤ old.count → Survivors unit choice old new → HasSuperblock geo old → HasSuperblock geo new
+superblock-restarted geo unit choice old new sound some x has p below =
     let on : p / 8 ≡ 0 = omega arith in
     elim (cases_Bool (old.is_bad (p / 8))) as (λ _. IsOnly (superblock_word geo p) (new.history p)) [
       | inl bad ↦ let none = x.lost p (sound.lost p bad) in (λ v at. absurd (subst (IsIn v) none at))
       | inr good ↦
           let word = x.words p (omega (arith, on, some), good) in
-          (λ v at. is_in-one v word.0 (subst (IsIn v) word.1.one at) ∙ has p below word.0 word.1.was)
+          (λ v at. is_in-one v word.0 (subst (IsIn v) word.1.one at) ∙ may_keep-only unit (superblock_word geo p) word.0 (old.history p) (has p below) word.1.was)
     ]
 
-pub superblock-waits : (geo : Geometry) (old new : Medium) → Waits old new → HasSuperblock geo old → HasSuperblock geo new
-superblock-waits geo old new x has p below =
+pub superblock-waits : (geo : Geometry) (unit : ℕ) (old new : Medium) → Waits unit old new → HasSuperblock geo old → HasSuperblock geo new
+superblock-waits geo unit old new x has p below =
     elim (x.words p) as (λ _. IsOnly (superblock_word geo p) (new.history p)) [
       | inl word_write_back ↦ λ v at. has p below v (is_in-word_write_back (old.is_weak (p / 8)) v (old.history p) (new.history p) word_write_back at)
-      | inr one ↦ λ v at. is_in-one v one.0 (subst (IsIn v) one.2 at) ∙ has p below one.0 one.1
+      | inr one ↦ λ v at. is_in-one v one.0 (subst (IsIn v) one.2 at) ∙ may_keep-only unit (superblock_word geo p) one.0 (old.history p) (has p below) one.1
     ]
 
 -- a line that became bad has no words, and a weak one keeps them

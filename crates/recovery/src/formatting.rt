@@ -1,7 +1,7 @@
 // Making a device anew: all zeros, and then its superblock.
 ghost use Rattle.std.specs.Prelude.{◌≡◌, ◌<◌, ℕ, IsTrue, OnOk};
 ghost use Rattle.line_device.specs.Word.{word_at};
-ghost use Rattle.line_device.specs.Panel.{SetsUp};
+ghost use Rattle.line_device.specs.Panel.{SetsUp, with_unit};
 ghost use Rattle.line_device.specs.Device.{setup_outcome};
 ghost use Rattle.word_tables.specs.Bounds.{IsValid};
 ghost use Rattle.word_tables.specs.Superblock.{superblock_word};
@@ -18,7 +18,8 @@ pub fn format<D: LineDevice>(device: &mut D, geo: Geometry) -> Result<(), ResetF
     ensures ok { OnOk result (IsFresh geo (D.state device.new).medium) }
     ensures on { OnOk result (IsTrue (D.state device.new).panel.power) }
     ensures stays_on { IsTrue (D.state device.old).panel.power → IsTrue (D.state device.new).panel.power }
-    ensures sets_up { SetsUp (setup_outcome result) (D.state device.old).panel (D.state device.new).panel }
+    ensures unit { OnOk result ((D.state device.new).panel.unit ≡ 8) }
+    ensures sets_up { SetsUp (setup_outcome result) (with_unit (D.state device.old).panel (D.state device.new).panel.unit) (D.state device.new).panel }
 {
     device.reset(geo.total_lines(), 8)?;
     device.install(LineNo(0), &LineState::Healthy(superblock_line(geo)))

@@ -25,8 +25,8 @@ pub fn mounts_again()
     ensures durable { (m : Medium) → IsSound m → IsMountable m → HasDurableBlocks m }
     ensures mounted { (old new : Medium) → IsMountable old → WritesBackOutside (IsOfLogs (geometry_told old)) old new
         → (early_finding old ≡ None → KeepsReads (geometry_told old) old new) → GoesOn old new }
-    ensures restarted { (choice : Choice) (old new : Medium) → IsSound old → IsMountable old → Survivors choice old new → GoesOn old new }
-    ensures waited { (old new : Medium) → IsMountable old → Waits old new → GoesOn old new }
+    ensures restarted { (unit : ℕ) (choice : Choice) (old new : Medium) → IsSound old → IsMountable old → Survivors unit choice old new → GoesOn old new }
+    ensures waited { (unit : ℕ) (old new : Medium) → IsMountable old → Waits unit old new → GoesOn old new }
 {}
 
 /// Findings of small devices: none of a fresh one, and of others what was changed.
@@ -66,9 +66,9 @@ pub fn superblocks_stay()
         → HasSuperblock geo new }
     ensures weakened { (geo : Geometry) (line : ℕ) (old new : Medium) → Weakens line old new → HasSuperblock geo old
         → HasSuperblock geo new }
-    ensures restarted { (geo : Geometry) (choice : Choice) (old new : Medium) → IsSound old → 1 ≤ old.count
-        → Survivors choice old new → HasSuperblock geo old → HasSuperblock geo new }
-    ensures waited { (geo : Geometry) (old new : Medium) → Waits old new → HasSuperblock geo old → HasSuperblock geo new }
+    ensures restarted { (geo : Geometry) (unit : ℕ) (choice : Choice) (old new : Medium) → IsSound old → 1 ≤ old.count
+        → Survivors unit choice old new → HasSuperblock geo old → HasSuperblock geo new }
+    ensures waited { (geo : Geometry) (unit : ℕ) (old new : Medium) → Waits unit old new → HasSuperblock geo old → HasSuperblock geo new }
 {}
 
 /// A fresh device is in order, and has no blocks, no pages and no files.

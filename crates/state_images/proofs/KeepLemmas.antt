@@ -2,6 +2,7 @@
 use Rattle.std.proofs.Common.{◌≡◌, ℕ, ◌+◌, ◌*◌, ◌<◌, Bool, true, false, if◌then◌else◌, Option, Some, None, List, [], ◌∷◌, length, slice_get, refl, sym, ap, subst, ◌∙◌, arith}
 use Rattle.std.proofs.lemmas.Option.{slice_get_within}
 use Rattle.line_device.specs.History.{IsIn}
+use Rattle.line_device.proofs.TornLemmas.{may_keep-in}
 use Rattle.line_device.specs.Panel.{Image}
 use Rattle.line_device.specs.declared.line.Choice.TheVariants.{Firsts}
 use Rattle.word_tables.specs.declared.geometry.Geometry.{Geometry}
@@ -52,7 +53,7 @@ keeps-cell image n (Kept weak words) (Kept mark values) survives read =
           let below : w < 8 = omega (arith, slice_get_within (list_from f (8 * n) 8) w (one.0 ∷ []) there, length-list_from f (8 * n) 8) in
           let same : Some (image.word (8 * n + w) ∷ []) ≡ Some (one.0 ∷ []) = sym (slice_get-list_from f (8 * n) 8 w below) ∙ there in
           let value : image.word (8 * n + w) ≡ one.0 = cc in
-          record { was = subst (λ v. IsIn v history) (sym value) one.1; last = λ e. cc }),
+          record { was = may_keep-in image.unit (image.word (8 * n + w)) history (subst (λ v. IsIn v history) (sym value) one.1); last = λ e. cc }),
     )
 
 became : (R : Cell → Cell → Type 0) (old : Cell) (o : Option Cell) → Became R (Some old) o → (new : Cell) × (o ≡ Some new) × R old new

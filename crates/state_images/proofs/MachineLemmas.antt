@@ -32,7 +32,7 @@ module _ (geo : Geometry) (blocks : List Block) (volume : List Page) (files : Li
   unfolding reading
   reading-is =
       let image = image_of geo blocks volume files in
-      ap (λ (lines : List ℕ). read_with lines geo image) (none_bad geo blocks volume files)
+      ap (λ (lines : List ℕ). record (read_with lines geo image) { unit = 8 }) (none_bad geo blocks volume files)
       ∙ ap (λ (bs : List Block). holding geo bs (read_pages (volume_line geo) image (presence_read geo image.word)) (files_read geo image)) (blocks-are geo blocks volume files valid storable.of_blocks)
       ∙ ap (λ there. holding geo blocks (read_pages (volume_line geo) image there) (files_read geo image)) (presence-is geo blocks volume files storable.of_volume)
       ∙ ap (λ (pages : List Page). holding geo blocks pages (files_read geo image)) (volume-is geo blocks volume files storable.of_volume)
@@ -51,8 +51,9 @@ module _ (off : Machine) (blocks : List Block) (volume : List Page) (files : Lis
     files = image-keeps-files off.geometry blocks volume may.files_left files storable.of_files may.files;
   }
 
-  pub image-left : off.bad_meta ≡ [] → MayBeLeft off blocks volume files → RestartMayLeave Firsts (image_of off.geometry blocks volume files) off
-  image-left good may = record {
+  pub image-left : off.unit ≡ 8 → off.bad_meta ≡ [] → MayBeLeft off blocks volume files → RestartMayLeave Firsts (image_of off.geometry blocks volume files) off
+  image-left by_words good may = record {
+    unit = sym by_words;
     metadata = none_bad off.geometry blocks volume files ∙ sym good;
     storage = λ _. storage-left may;
   }
@@ -61,14 +62,14 @@ module _ (off : Machine) (blocks : List Block) (volume : List Page) (files : Lis
   restarted-is = ap (λ (h : Machine). record h { cut_armed = off.cut_armed; fail_armed = off.fail_armed }) (reading-is off.geometry blocks volume files valid storable)
 
   -- a restart that does so
-  pub run-back : off.bad_meta ≡ [] → MayBeLeft off blocks volume files → fate off (Restart Firsts) ≡ Restarts Firsts
+  pub run-back : off.unit ≡ 8 → off.bad_meta ≡ [] → MayBeLeft off blocks volume files → fate off (Restart Firsts) ≡ Restarts Firsts
       → (said : Transcript) × (said.answers ≡ DoneBad (bad_of (back_with off blocks volume files)) ∷ []) × Hears off (Asked (Restart Firsts)) said (back_with off blocks volume files)
-  run-back good may restarts =
+  run-back by_words good may restarts =
       let image : Image = image_of off.geometry blocks volume files in
       let start : Start = record { choice = Firsts; image = image } in
       let answer : Answer = mounted_answer (restarted off image) in
       let said : Transcript = with_start (spending off (Restart Firsts)) start answer in
-      let took : Takes off (Restart Firsts) (Restarts Firsts) said (restarted off image) = (start, answer, refl, refl, image-left good may, inl (refl, refl)) in (
+      let took : Takes off (Restart Firsts) (Restarts Firsts) said (restarted off image) = (start, answer, refl, refl, image-left by_words good may, inl (refl, refl)) in (
         said,
         ap (λ (h : Machine). mounted_answer h ∷ []) restarted-is,
         subst (λ (f : Fate). Takes off (Restart Firsts) f said (back_with off blocks volume files)) (sym restarts)

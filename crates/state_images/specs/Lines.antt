@@ -36,5 +36,6 @@ image_of_lines count line = record {
   count = count;
   is_bad = λ n. shown_bad (line n);
   is_weak = λ n. shown_weak (line n);
+  unit = 8;
   word = λ p. shown_word (line (p / 8)) (p % 8);
 }

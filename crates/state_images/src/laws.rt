@@ -105,14 +105,14 @@ pub fn the_machine_reads_what_is_stored()
         → reading geo (image_of geo blocks volume files) ≡ holding geo blocks volume files }
 {}
 
-/// Whatever storage the interrupted action may have left, with whichever value kept of each word: a restart may leave its image, and
+/// Where words are kept whole: whatever storage the interrupted action may have left, with whichever value kept of each word: a restart may leave its image, and
 /// so a run comes to it.
 pub fn a_restart_may_leave_what_is_stored()
     ensures image { (off : Machine) (blocks : List Block) (volume : List Page) (files : List File) → IsValid off.geometry
-        → IsStorable off.geometry blocks volume files → off.bad_meta ≡ [] → MayBeLeft off blocks volume files
+        → IsStorable off.geometry blocks volume files → off.unit ≡ 8 → off.bad_meta ≡ [] → MayBeLeft off blocks volume files
         → RestartMayLeave Firsts (image_of off.geometry blocks volume files) off }
     ensures run { (off : Machine) (blocks : List Block) (volume : List Page) (files : List File) → IsValid off.geometry
-        → IsStorable off.geometry blocks volume files → off.bad_meta ≡ [] → MayBeLeft off blocks volume files
+        → IsStorable off.geometry blocks volume files → off.unit ≡ 8 → off.bad_meta ≡ [] → MayBeLeft off blocks volume files
         → fate off (Restart Firsts) ≡ Restarts Firsts
         → (said : Transcript) × (said.answers ≡ DoneBad (bad_of (back_with off blocks volume files)) ∷ [])
         × Hears off (Asked (Restart Firsts)) said (back_with off blocks volume files) }

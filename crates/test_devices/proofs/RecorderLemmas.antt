@@ -28,8 +28,8 @@ word_shown m n w (Healthy bytes) below good x = x.2.words w below
 word_shown m n w (Weak bytes) below good x = x.2.words w below
 word_shown m n w Bad below good x = cc
 
-depicts-lines : (choice : Choice) (old m : Medium) (lines : List LineState) → IsSound m → Survivors choice old m → length lines ≡ m.count → ((n : ℕ) → n < m.count → IfSome (slice_get lines n) (Shows m n)) → Depicts m (image_of_lines lines)
-depicts-lines choice old m lines sound survivors long shows = record {
+depicts-lines : (kept unit : ℕ) (choice : Choice) (old m : Medium) (lines : List LineState) → IsSound m → Survivors kept choice old m → length lines ≡ m.count → ((n : ℕ) → n < m.count → IfSome (slice_get lines n) (Shows m n)) → Depicts m (image_of_lines unit lines)
+depicts-lines kept unit choice old m lines sound survivors long shows = record {
   count = long;
   bad = λ n below. ap is_bad_line (found n below) ∙ bad_shown m n (line n) (shown n below);
   weak = λ n below. ap is_weak_line (found n below) ∙ weak_shown m n (line n) sound (shown n below);
@@ -53,10 +53,11 @@ depicts-lines choice old m lines sound survivors long shows = record {
 abbrev pub telling : List panel.Start → Option Order → Device → Device
 telling starts last d = record { medium = d.medium; panel = record d.panel { starts = Some starts; last_order = Some last } }
 
-pub restarted-telling : (choice : Choice) (old new : Device) (start : panel.Start) (starts : List panel.Start) (last : Option Order) (lines : List LineState) → IsSound new.medium → Restarted choice old new start → length lines ≡ new.medium.count → ((n : ℕ) → n < new.medium.count → IfSome (slice_get lines n) (Shows new.medium n)) → Restarted choice (telling starts last old) (telling (starts ++ record { choice = choice; image = image_of_lines lines } ∷ []) last new) (record { choice = choice; image = image_of_lines lines })
-restarted-telling choice old new start starts last lines sound r long shows = record {
+pub restarted-telling : (unit : ℕ) (choice : Choice) (old new : Device) (start : panel.Start) (starts : List panel.Start) (last : Option Order) (lines : List LineState) → IsSound new.medium → unit ≡ old.panel.unit → Restarted choice old new start → length lines ≡ new.medium.count → ((n : ℕ) → n < new.medium.count → IfSome (slice_get lines n) (Shows new.medium n)) → Restarted choice (telling starts last old) (telling (starts ++ record { choice = choice; image = image_of_lines unit lines } ∷ []) last new) (record { choice = choice; image = image_of_lines unit lines })
+restarted-telling unit choice old new start starts last lines sound same r long shows = record {
   lines = r.lines;
   asked = refl;
-  image = depicts-lines choice old.medium new.medium lines sound r.lines long shows;
-  panel = ap (λ (p : panel.Panel). record p { starts = Some (starts ++ record { choice = choice; image = image_of_lines lines } ∷ []); last_order = Some last }) r.panel;
+  unit = same;
+  image = depicts-lines old.panel.unit unit choice old.medium new.medium lines sound r.lines long shows;
+  panel = ap (λ (p : panel.Panel). record p { starts = Some (starts ++ record { choice = choice; image = image_of_lines unit lines } ∷ []); last_order = Some last }) r.panel;
 }

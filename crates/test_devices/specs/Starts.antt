@@ -25,14 +25,15 @@ word_of_line (Some (Healthy bytes)) w = word_at bytes w
 word_of_line (Some (Weak bytes)) w = word_at bytes w
 word_of_line (Some Bad) w = 0
 
-abbrev pub image_of_lines : List LineState → panel.Image
-image_of_lines lines = record {
+abbrev pub image_of_lines : ℕ → List LineState → panel.Image
+image_of_lines unit lines = record {
   count = length lines;
   is_bad = λ n. is_bad_line (slice_get lines n);
   is_weak = λ n. is_weak_line (slice_get lines n);
+  unit = unit;
   word = λ p. word_of_line (slice_get lines (p / 8)) (p % 8);
 }
 
 -- the restart that a record tells
 abbrev pub told_start : Start → panel.Start
-told_start s = record { choice = s.choice; image = image_of_lines s.lines.items }
+told_start s = record { choice = s.choice; image = image_of_lines s.unit s.lines.items }

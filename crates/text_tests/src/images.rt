@@ -21,7 +21,7 @@ fn lines_go_to_a_device_and_come_back_as_last_stored(rt: HostRuntime) -> Result<
         return Err("the device has 5,056 lines".into());
     }
     device.store(LineNo(7), 8, &[5; 8])?;
-    let after = extract(rt.alloc(), &mut device)?;
+    let after = extract(rt.alloc(), &mut device, 8)?;
     assert_eq!(rt; after.unit, 8);
     assert_eq!(rt; after.lines.len(), 5056);
     let mut stored = [0; 64];
@@ -54,7 +54,7 @@ fn weak_and_bad_lines_go_to_a_device_and_come_back(rt: HostRuntime) -> Result<()
     lines.extend(&told)?;
     let mut device = Plain::new(rt.alloc());
     install(&mut device, &Image { unit: 8, lines })?;
-    let after = extract(rt.alloc(), &mut device)?;
+    let after = extract(rt.alloc(), &mut device, 8)?;
     assert_eq!(rt; after.lines.as_slice(), told.as_slice());
     Ok(())
 }

@@ -51,6 +51,7 @@ runs_behind a b end name other ranges others old new x = record {
     disarms = x.orders.disarms;
     starts = x.orders.starts;
     last_order = x.orders.last_order;
+    unit = x.orders.unit;
     loans = same_loans name other ranges others old new x.orders.loans;
   };
 }

@@ -1,6 +1,6 @@
 ghost use Rattle.std.specs.Prelude.{◌≡◌, ◌<◌, ◌≤◌, ℕ, false, IsTrue, IsOk, IfOk, OnOk, OnErr, MatchResult, Some, None};
 ghost use Rattle.line_device.specs.Medium.{WritesBack, Shows, installed, zeros};
-ghost use Rattle.line_device.specs.Panel.{Start, SetsUp, KeepsPower, outcome, after_arm_cut, after_arm_fail, after_evict, after_disarm, after_power_off};
+ghost use Rattle.line_device.specs.Panel.{Start, SetsUp, KeepsPower, outcome, with_unit, after_arm_cut, after_arm_fail, after_evict, after_disarm, after_power_off, IsUnit};
 ghost use Rattle.line_device.specs.Device.{Restarted, Waited, setup_outcome};
 ghost use Rattle.line_device.specs.Cells.{kept};
 ghost use Rattle.line_device.specs.Switches.{cut_left, fail_left, switches_after_restart, powered};
@@ -17,20 +17,21 @@ impl LineDevice for Plain {
     fn reset(&mut self, lines: u64, unit: u64) -> Result<(), ResetFault>
         requires some { 1 ≤ lines }
         requires few { lines ≤ 118016 }
-        requires words { unit ≡ 8 }
+        requires known { IsUnit unit }
         ensures lines { OnOk result (WritesBack (zeros lines) (plain_medium self.new)) }
         ensures on { OnOk result (IsTrue (device_of self.new).panel.power) }
         ensures stays_on { IsTrue (device_of self.old).panel.power → IsTrue (device_of self.new).panel.power }
-        ensures sets_up { SetsUp (setup_outcome result) (device_of self.old).panel (device_of self.new).panel }
+        ensures unit { OnOk result ((device_of self.new).panel.unit ≡ unit) }
+        ensures sets_up { SetsUp (setup_outcome result) (with_unit (device_of self.old).panel (device_of self.new).panel.unit) (device_of self.new).panel }
         ensures exactly { MatchResult result (λ _. plain_medium self.new ≡ zeros lines) (λ _. plain_medium self.new ≡ plain_medium self.old) }
         ensures never_failed { result ≡ Err setup.Failed → ⊥ }
         ensures switches { MatchResult result
-            (λ _. switches_of self.new ≡ powered (switches_of self.old))
+            (λ _. switches_of self.new ≡ powered unit (switches_of self.old))
             (λ _. switches_of self.new ≡ switches_of self.old) }
     {
         match self.cells.reset(lines) {
             Ok(()) => {
-                self.switches.power_on();
+                self.switches.power_on(unit);
                 Ok(())
             }
             Err(_) => Err(ResetFault::Memory),
@@ -139,5 +140,9 @@ impl LineDevice for Plain {
 impl Peek for Plain {
     fn peek(&self, line: LineNo) -> LineState {
         self.cells.shown(line)
+    }
+
+    fn unit(&self) -> u64 {
+        self.switches.unit()
     }
 }

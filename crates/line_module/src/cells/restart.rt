@@ -14,12 +14,13 @@ use line_device::{Choice, word_bytes, word_in};
 use nvm_base::LineNo;
 
 impl Cells {
-    pub fn restart(&mut self, choice: Choice)
-        ensures { memory_in self.new ≡ memory_after_restart (memory_in self.old) choice }
+    /// Each word keeps one value, as a module of this survival unit does.
+    pub fn restart(&mut self, unit: u64, choice: Choice)
+        ensures { memory_in self.new ≡ memory_after_restart unit (memory_in self.old) choice }
     {
         let mut line = 0;
         while line < self.lines() {
-            self.settle(LineNo(line), choice);
+            self.settle(unit, LineNo(line), choice);
             line = self.next_unclean(line);
         }
     }
@@ -39,57 +40,57 @@ impl Cells {
         self.lines()
     }
 
-    // Each word of the line keeps one of its values.
-    fn settle(&mut self, line: LineNo, choice: Choice)
+    // Each word of the line keeps one value.
+    fn settle(&mut self, unit: u64, line: LineNo, choice: Choice)
         requires { line.0 < (cells_medium self.old).count }
-        ensures { memory_in self.new ≡ with_survivors (memory_in self.old) line.0 choice }
+        ensures { memory_in self.new ≡ with_survivors unit (memory_in self.old) line.0 choice }
     {
         if self.is_dirty(line) {
-            let bytes = self.survivors(line, choice);
+            let bytes = self.survivors(unit, line, choice);
             self.renew(line, Some(bytes), Next::Same);
         }
     }
 
     // The bytes that a line which is not bad keeps.
-    fn survivors(&self, line: LineNo, choice: Choice) -> [u8; 64]
+    fn survivors(&self, unit: u64, line: LineNo, choice: Choice) -> [u8; 64]
         requires within { line.0 < (cells_medium self.now).count }
         requires good { (cells_medium self.now).is_bad line.0 ≡ false }
-        ensures { (w : ℕ) → w < 8 → survivor_of choice (8 * line.0 + w) ((cells_medium self.now).history (8 * line.0 + w)) ≡ word_at result w ∷ [] }
+        ensures { (w : ℕ) → w < 8 → survivor_of unit choice (8 * line.0 + w) ((cells_medium self.now).history (8 * line.0 + w)) ≡ word_at result w ∷ [] }
     {
         match choice {
             Choice::Firsts => self.copy_durable(line),
             Choice::Lasts => self.copy(line),
-            Choice::Seed(seed) => self.drawn(line, seed),
+            Choice::Seed(seed) => self.drawn(unit, line, seed),
         }
     }
 
-    fn drawn(&self, line: LineNo, seed: u64) -> [u8; 64]
+    fn drawn(&self, unit: u64, line: LineNo, seed: u64) -> [u8; 64]
         requires within { line.0 < (cells_medium self.now).count }
         requires good { (cells_medium self.now).is_bad line.0 ≡ false }
-        ensures { (w : ℕ) → w < 8 → survivor_of (Seed seed) (8 * line.0 + w) ((cells_medium self.now).history (8 * line.0 + w)) ≡ word_at result w ∷ [] }
+        ensures { (w : ℕ) → w < 8 → survivor_of unit (Seed seed) (8 * line.0 + w) ((cells_medium self.now).history (8 * line.0 + w)) ≡ word_at result w ∷ [] }
     {
         let mut bytes = self.copy_durable(line);
         for w in 0..8_u64 {
             let first = word_in(&bytes, w);
-            let value = self.drawn_word(line, w, seed, first);
+            let value = self.drawn_word(unit, line, w, seed, first);
             put(&mut bytes, 8 * w, &word_bytes(value));
         }
         bytes
     }
 
-    // The value that a word keeps by a seed, where this one is durable.
-    fn drawn_word(&self, line: LineNo, w: u64, seed: u64, first: u64) -> u64
+    // What a word keeps by a seed, where this value is durable.
+    fn drawn_word(&self, unit: u64, line: LineNo, w: u64, seed: u64, first: u64) -> u64
         requires within { line.0 < (cells_medium self.now).count }
         requires good { (cells_medium self.now).is_bad line.0 ≡ false }
         requires word { w < 8 }
-        requires first { survivor_of Firsts (8 * line.0 + w) ((cells_medium self.now).history (8 * line.0 + w)) ≡ first ∷ [] }
-        ensures { survivor_of (Seed seed) (8 * line.0 + w) ((cells_medium self.now).history (8 * line.0 + w)) ≡ result ∷ [] }
+        requires first { survivor_of unit Firsts (8 * line.0 + w) ((cells_medium self.now).history (8 * line.0 + w)) ≡ first ∷ [] }
+        ensures { survivor_of unit (Seed seed) (8 * line.0 + w) ((cells_medium self.now).history (8 * line.0 + w)) ≡ result ∷ [] }
     {
         let place = 8 * line.0 + w;
         match &self.states[line.0 as usize] {
             State::Clean => first,
-            State::Dirty(chain) => chain.survivor(seed, place, w, first),
-            State::Weak(chain) => chain.survivor(seed, place, w, first),
+            State::Dirty(chain) => chain.survivor(unit, seed, place, w, first),
+            State::Weak(chain) => chain.survivor(unit, seed, place, w, first),
         }
     }
 }

@@ -1,6 +1,6 @@
 ghost use Rattle.std.specs.Prelude.{◌≡◌, ◌<◌, ◌≤◌, ℕ, false, IsTrue, IsOk, IfOk, OnOk, OnErr, MatchResult, Some, None};
 ghost use Rattle.line_device.specs.Medium.{WritesBack, Shows, installed, zeros};
-ghost use Rattle.line_device.specs.Panel.{Start, SetsUp, KeepsPower, outcome, after_arm_cut, after_arm_fail, after_evict, after_disarm, after_power_off};
+ghost use Rattle.line_device.specs.Panel.{Start, SetsUp, KeepsPower, outcome, with_unit, after_arm_cut, after_arm_fail, after_evict, after_disarm, after_power_off, IsUnit};
 ghost use Rattle.line_device.specs.Device.{Restarted, Waited, setup_outcome};
 ghost use Rattle.line_module.specs.Memory.{memory_after_reset, memory_after_install, memory_after_evict, memory_after_restart, is_told_weak};
 ghost use Rattle.line_device.specs.Switches.{cut_left, fail_left, switches_after_restart, powered};
@@ -18,23 +18,24 @@ impl LineDevice for Module {
     fn reset(&mut self, lines: u64, unit: u64) -> Result<(), ResetFault>
         requires some { 1 ≤ lines }
         requires few { lines ≤ 118016 }
-        requires words { unit ≡ 8 }
+        requires known { IsUnit unit }
         ensures lines { OnOk result (WritesBack (zeros lines) (module_medium self.new)) }
         ensures on { OnOk result (IsTrue (module_device self.new).panel.power) }
         ensures stays_on { IsTrue (module_device self.old).panel.power → IsTrue (module_device self.new).panel.power }
-        ensures sets_up { SetsUp (setup_outcome result) (module_device self.old).panel (module_device self.new).panel }
+        ensures unit { OnOk result ((module_device self.new).panel.unit ≡ unit) }
+        ensures sets_up { SetsUp (setup_outcome result) (with_unit (module_device self.old).panel (module_device self.new).panel.unit) (module_device self.new).panel }
         ensures exactly { MatchResult result
             (λ _. memory_of self.new ≡ memory_after_reset lines)
             (λ _. memory_of self.new ≡ memory_of self.old) }
         ensures never_failed { result ≡ Err setup.Failed → ⊥ }
         ensures switches { MatchResult result
-            (λ _. module_switches self.new ≡ powered (module_switches self.old))
+            (λ _. module_switches self.new ≡ powered unit (module_switches self.old))
             (λ _. module_switches self.new ≡ module_switches self.old) }
     {
         match Cells::new(self.alloc, lines) {
             Ok(cells) => {
                 self.cells = Some(cells);
-                self.switches.power_on();
+                self.switches.power_on(unit);
                 Ok(())
             }
             Err(_) => Err(ResetFault::Memory),
@@ -104,13 +105,14 @@ impl LineDevice for Module {
         ensures restarted { MatchResult result
             (λ _. (start : Start) × Restarted choice (module_device self.old) (module_device self.new) start)
             (λ _. Waited (module_device self.old) (module_device self.new)) }
-        ensures exactly { memory_of self.new ≡ memory_after_restart (memory_of self.old) choice }
+        ensures exactly { memory_of self.new ≡ memory_after_restart (module_device self.old).panel.unit (memory_of self.old) choice }
         ensures never_refuses { IsOk result }
         ensures switches { module_switches self.new ≡ switches_after_restart (module_switches self.old) }
     {
         self.switches.restart();
+        let unit = self.switches.unit();
         match &mut self.cells {
-            Some(cells) => cells.restart(choice),
+            Some(cells) => cells.restart(unit, choice),
             None => {}
         }
         Ok(())
@@ -158,5 +160,9 @@ impl LineDevice for Module {
 impl Peek for Module {
     fn peek(&self, line: LineNo) -> LineState {
         self.shown(line)
+    }
+
+    fn unit(&self) -> u64 {
+        self.switches.unit()
     }
 }

@@ -14,7 +14,7 @@ impl Performer {
         requires serves { HostServes self.now (D.state _device.now) }
         ensures { Answered (Attr name.now) (answer_of result) self.now self.now (D.state _device.now) (D.state _device.now) }
     {
-        match attributes::value(name, self.geometry) {
+        match attributes::value(name, self.geometry, self.unit) {
             Some(value) => Reply::Attribute(value),
             None => Reply::Refused(Why::Unknown),
         }

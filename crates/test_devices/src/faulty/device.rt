@@ -1,6 +1,6 @@
 ghost use Rattle.std.specs.Prelude.{◌≡◌, ◌<◌, ◌≤◌, false, Err, IsTrue, IfOk, OnOk, MatchResult};
 ghost use Rattle.line_device.specs.Medium.{WritesBack, Shows, installed, zeros};
-ghost use Rattle.line_device.specs.Panel.{Start, SetsUp, KeepsPower, outcome, after_arm_cut, after_arm_fail, after_evict, after_disarm, after_power_off};
+ghost use Rattle.line_device.specs.Panel.{Start, SetsUp, KeepsPower, outcome, with_unit, after_arm_cut, after_arm_fail, after_evict, after_disarm, after_power_off, IsUnit};
 ghost use Rattle.line_device.specs.Device.{Restarted, Waited, setup_outcome};
 ghost use Rattle.line_device.specs.declared.fault.DeviceFault.TheVariants.{Poisoned, Failed};
 ghost use Rattle.line_device.specs.declared.fault.ResetFault.TheVariants as setup;
@@ -16,14 +16,15 @@ impl<D: LineDevice> LineDevice for Faulty<D> {
     fn reset(&mut self, lines: u64, unit: u64) -> Result<(), ResetFault>
         requires some { 1 ≤ lines }
         requires few { lines ≤ 118016 }
-        requires words { unit ≡ 8 }
+        requires known { IsUnit unit }
         ensures lines { OnOk result (WritesBack (zeros lines) (faulty D.state self.new).medium) }
         ensures on { OnOk result (IsTrue (faulty D.state self.new).panel.power) }
         ensures stays_on { IsTrue (faulty D.state self.old).panel.power → IsTrue (faulty D.state self.new).panel.power }
-        ensures sets_up { SetsUp (setup_outcome result) (faulty D.state self.old).panel (faulty D.state self.new).panel }
+        ensures unit { OnOk result ((faulty D.state self.new).panel.unit ≡ unit) }
+        ensures sets_up { SetsUp (setup_outcome result) (with_unit (faulty D.state self.old).panel (faulty D.state self.new).panel.unit) (faulty D.state self.new).panel }
         ensures numbered { Numbered self.old self.new
             ((result ≡ Err setup.Failed) × ((faulty D.state self.new).panel.counts ≡ setup_failed (faulty D.state self.old).panel.counts))
-            (SetsUp (setup_outcome result) (D.state (reached self.old)).panel (D.state (reached self.new)).panel) }
+            (SetsUp (setup_outcome result) (with_unit (D.state (reached self.old)).panel (D.state (reached self.new)).panel.unit) (D.state (reached self.new)).panel) }
     {
         if self.fails_setup() {
             return Err(ResetFault::Failed);
@@ -130,5 +131,9 @@ impl<D: LineDevice> LineDevice for Faulty<D> {
 impl<D: Peek> Peek for Faulty<D> {
     fn peek(&self, line: LineNo) -> LineState {
         self.inner.peek(line)
+    }
+
+    fn unit(&self) -> u64 {
+        self.inner.unit()
     }
 }

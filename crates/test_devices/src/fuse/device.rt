@@ -1,6 +1,6 @@
 ghost use Rattle.std.specs.Prelude.{◌≡◌, ◌<◌, ◌≤◌, false, IsTrue, IfOk, OnOk, MatchResult};
 ghost use Rattle.line_device.specs.Medium.{WritesBack, Shows, installed, zeros};
-ghost use Rattle.line_device.specs.Panel.{Start, SetsUp, KeepsPower, outcome, after_arm_cut, after_arm_fail, after_evict};
+ghost use Rattle.line_device.specs.Panel.{Start, SetsUp, KeepsPower, outcome, with_unit, after_arm_cut, after_arm_fail, after_evict, IsUnit};
 ghost use Rattle.line_device.specs.Device.{Restarted, Waited, setup_outcome};
 ghost use Rattle.line_device.specs.declared.fault.DeviceFault.TheVariants.{Poisoned};
 ghost use Rattle.test_devices.specs.Fuse.{fused, passes_left};
@@ -14,11 +14,12 @@ impl<D: LineDevice> LineDevice for Fuse<D> {
     fn reset(&mut self, lines: u64, unit: u64) -> Result<(), ResetFault>
         requires some { 1 ≤ lines }
         requires few { lines ≤ 118016 }
-        requires words { unit ≡ 8 }
+        requires known { IsUnit unit }
         ensures lines { OnOk result (WritesBack (zeros lines) (fused D.state self.new).medium) }
         ensures on { OnOk result (IsTrue (fused D.state self.new).panel.power) }
         ensures stays_on { IsTrue (fused D.state self.old).panel.power → IsTrue (fused D.state self.new).panel.power }
-        ensures sets_up { SetsUp (setup_outcome result) (fused D.state self.old).panel (fused D.state self.new).panel }
+        ensures unit { OnOk result ((fused D.state self.new).panel.unit ≡ unit) }
+        ensures sets_up { SetsUp (setup_outcome result) (with_unit (fused D.state self.old).panel (fused D.state self.new).panel.unit) (fused D.state self.new).panel }
         ensures left { passes_left self.new ≡ passes_left self.old }
     {
         self.inner.reset(lines, unit)
@@ -105,5 +106,9 @@ impl<D: LineDevice> LineDevice for Fuse<D> {
 impl<D: Peek> Peek for Fuse<D> {
     fn peek(&self, line: LineNo) -> LineState {
         self.inner.peek(line)
+    }
+
+    fn unit(&self) -> u64 {
+        self.inner.unit()
     }
 }

@@ -45,9 +45,16 @@ impl<D: Peek> LineDevice for Recorder<D> {
             ((start : Told) × Restarted choice (D.state (recorded_device self.old)) (D.state (recorded_device self.new)) start) }
     {
         let mut lines = self.room()?;
+        let unit = self.inner.unit();
         self.inner.restart(choice)?;
         look(&self.inner, &mut lines);
-        self.starts.push(Start { choice, lines }).unwrap();
+        self.starts
+            .push(Start {
+                choice,
+                unit,
+                lines,
+            })
+            .unwrap();
         Ok(())
     }
 
@@ -87,5 +94,9 @@ impl<D: Peek> LineDevice for Recorder<D> {
 impl<D: Peek> Peek for Recorder<D> {
     fn peek(&self, line: LineNo) -> LineState {
         self.inner.peek(line)
+    }
+
+    fn unit(&self) -> u64 {
+        self.inner.unit()
     }
 }

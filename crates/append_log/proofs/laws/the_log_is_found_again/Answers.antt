@@ -8,9 +8,9 @@ use Rattle.append_log.proofs.LogLemmas.{stands-left}
 use Rattle.append_log.proofs.laws.the_log_is_found_again.Goals as goal
 
 pub returns-clause-stands : goal.returns-clause-stands
-returns-clause-stands c = λ s m log serves has.
+returns-clause-stands c = λ unit s m log serves has.
     reads_rest s.volume.geo m s.volume.present has.pages _ serves.valid serves.count serves.all (length-holds s.volume m has.pages has.holds ∙ serves.all) serves.rest has.holds.there has.holds.stand
-    (λ left leaves. stands-left has.pages left log (length-left has.pages left leaves) leaves has.stands)
+    (λ left leaves. stands-left unit has.pages left log (length-left unit has.pages left leaves) leaves has.stands)
 
 pub returns-clause-found : goal.returns-clause-found
 returns-clause-found c = λ geo choice old back new image s one other valid count good each left shows outside sizes there.

@@ -9,7 +9,7 @@ returns c =
     let geo = c.args.geo in
     let two = block_attributes geo ++ volume_attributes geo in
     let three = two ++ file_attributes geo in
-    value_in-parts three mapping_attributes c.args.name.now _ _ _
+    value_in-parts three (mapping_attributes c.args.unit) c.args.name.now _ _ _
     (value_in-parts two (file_attributes geo) c.args.name.now _ _ _
     (value_in-parts (block_attributes geo) (volume_attributes geo) c.args.name.now _ _ _ c.block_value.ensures c.volume_value.ensures c.or.ensures)
     c.file_value.ensures c.or-2.ensures)

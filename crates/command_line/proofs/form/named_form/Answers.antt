@@ -1,5 +1,5 @@
 use Rattle.std.proofs.Common.{◌∙◌, sym}
-use Rattle.command_line.proofs.FormLemmas.{command_bench, command_check, command_new, command_other, command_run, met_is}
+use Rattle.command_line.proofs.FormLemmas.{command_bench, command_check, command_new, command_new_byte, command_other, command_run, met_is}
 use Rattle.command_line.proofs.form.named_form.Goals as goal
 
 pub returns-in-new : goal.returns-in-new
@@ -18,6 +18,10 @@ pub returns-in-bench : goal.returns-in-bench
 returns-in-bench c =
     c.bench_form.ensures ∙ sym (met_is _ _ _ c.in_ok-name.ensures.name c.in_ok-name.ensures.rows ∙ command_bench _ _ c.in-bench.is)
 
+pub returns-in-newbyte : goal.returns-in-newbyte
+returns-in-newbyte c =
+    c.new_byte_form.ensures ∙ sym (met_is _ _ _ c.in_ok-name.ensures.name c.in_ok-name.ensures.rows ∙ command_new_byte _ _ c.in-newbyte.is)
+
 pub returns-in_default : goal.returns-in_default
 returns-in_default c =
-    sym (met_is _ _ _ c.in_ok-name.ensures.name c.in_ok-name.ensures.rows ∙ command_other _ _ c.in_default.not-new c.in_default.not-run c.in_default.not-check c.in_default.not-bench)
+    sym (met_is _ _ _ c.in_ok-name.ensures.name c.in_ok-name.ensures.rows ∙ command_other _ _ c.in_default.not-new c.in_default.not-run c.in_default.not-check c.in_default.not-bench c.in_default.not-newbyte)

@@ -7,6 +7,7 @@ use Rattle.outcome_lists.specs.CutPlaces.Places.{found_stop}
 use Rattle.outcome_lists.specs.Explorer.Finding.{IsFound}
 use Rattle.outcome_lists.specs.Explorer.Leading.{led_through}
 use Rattle.outcome_lists.specs.OutcomeTest.Finds.{armed}
+use Rattle.image_file.specs.Text.{snapshot_of}
 use Rattle.program_base.specs.Opening.{opened}
 use Rattle.explore_program.specs.Stops.{of_explore}
 use Rattle.explore_program.proofs.CauseLemmas.{explore_unanswered, fell_on, unanswered_later}
@@ -19,7 +20,7 @@ returns-in_err-explore-clause-cause g c counted counts =
     let begun = (g.D.Lines.state c.begin.new.device).panel in
     let new = (g.D.Lines.state c.explore.new.device).panel in
     rw (p.1, p.2) (unanswered_later (of_explore c.in_err-explore.field-0.0) counted counts old begun new c.in_ok-host.ensures.counts
-    (explore_unanswered c.in_err-explore.field-0.0 counted counts begun new (c.in_err-explore.ensures.cause (opened c.args.image.now.lines.items) c.in_ok-host.ensures.stands c.in_ok-host.ensures.begins)))
+    (explore_unanswered c.in_err-explore.field-0.0 counted counts begun new (c.in_err-explore.ensures.cause (opened (snapshot_of c.args.image.now)) c.in_ok-host.ensures.stands c.in_ok-host.ensures.begins)))
 
 pub explore-requires-clause-replies : goal.explore-requires-clause-replies
 explore-requires-clause-replies g c = subst (λ (geo : Geometry). may_be_replies geo c.args.looked.now ≡ true) (sym c.in_ok-host.ensures.stands.geometry) c.requires.replies
@@ -30,7 +31,7 @@ returns-clause-counts g c =
 
 pub returns-clause-found : goal.returns-clause-found
 returns-clause-found g c look all is are under =
-    let lines = c.args.image.now.lines.items in
-    subst (λ p. IsFound all look (found_stop (led_through (armed (opened lines)) (inputs_of_lines c.args.exploration.now.first.items)) (inputs_of_lines p) look) c.in_ok-explore.field-0) c.deref-2.ensures.value
-    (subst (λ f. IsFound all look (found_stop (led_through (armed (opened lines)) (inputs_of_lines f)) (inputs_of_lines c.deref-2.result.now) look) c.in_ok-explore.field-0) c.deref.ensures.value
-    (c.in_ok-explore.ensures.found (opened lines) look all c.in_ok-host.ensures.stands c.in_ok-host.ensures.begins is are under))
+    let image = (snapshot_of c.args.image.now) in
+    subst (λ p. IsFound all look (found_stop (led_through (armed (opened image)) (inputs_of_lines c.args.exploration.now.first.items)) (inputs_of_lines p) look) c.in_ok-explore.field-0) c.deref-2.ensures.value
+    (subst (λ f. IsFound all look (found_stop (led_through (armed (opened image)) (inputs_of_lines f)) (inputs_of_lines c.deref-2.result.now) look) c.in_ok-explore.field-0) c.deref.ensures.value
+    (c.in_ok-explore.ensures.found (opened image) look all c.in_ok-host.ensures.stands c.in_ok-host.ensures.begins is are under))

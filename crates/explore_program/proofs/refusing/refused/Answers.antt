@@ -4,6 +4,7 @@ use Rattle.outcome_lists.specs.AskedReads.Program.{inputs_of_lines}
 use Rattle.outcome_lists.specs.Explorer.Reporting.{refusals_from}
 use Rattle.outcome_lists.specs.OutcomeTest.Finds.{armed}
 use Rattle.outcome_lists.proofs.Explorer.LedLemmas.{armed_led}
+use Rattle.image_file.specs.Text.{snapshot_of}
 use Rattle.program_base.specs.Opening.{opened}
 use Rattle.explore_program.specs.Stops.{of_explore}
 use Rattle.explore_program.proofs.CauseLemmas.{explore_unanswered, fell_on, unanswered_later}
@@ -24,8 +25,8 @@ returns-clause-counts g c =
 
 pub returns-clause-text : goal.returns-clause-text
 returns-clause-text g c =
-    let lines = c.args.image.now.lines.items in
+    let image = (snapshot_of c.args.image.now) in
     let first = inputs_of_lines c.args.first.now in
-    c.in_ok-report_refusals.ensures.text (opened lines) c.in_ok-host.ensures.stands c.in_ok-host.ensures.begins.ready
-    ∙ ap (λ m. refusals_from 1 (armed (opened lines)) first c.args.wanted.now ++ refusals_from 1 m (inputs_of_lines c.args.program.now) c.args.wanted.now)
-    (sym (armed_led (opened lines) first c.requires.first.program))
+    c.in_ok-report_refusals.ensures.text (opened image) c.in_ok-host.ensures.stands c.in_ok-host.ensures.begins.ready
+    ∙ ap (λ m. refusals_from 1 (armed (opened image)) first c.args.wanted.now ++ refusals_from 1 m (inputs_of_lines c.args.program.now) c.args.wanted.now)
+    (sym (armed_led (opened image) first c.requires.first.program))

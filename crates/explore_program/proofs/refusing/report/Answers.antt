@@ -1,6 +1,7 @@
 use Rattle.std.proofs.Common.{Ok, ap, arith, ◌∙◌}
 use Rattle.std.proofs.lemmas.Result.{err_from_is_err_and}
 use Rattle.outcome_lists.specs.AskedReads.Program.{inputs_of_lines}
+use Rattle.image_file.specs.Text.{snapshot_of}
 use Rattle.program_base.specs.Opening.{opened}
 use Rattle.program_base.proofs.WritingLemmas.{told_front}
 use Rattle.explore_program.specs.Showing.{refusals}
@@ -10,7 +11,7 @@ use Rattle.explore_program.proofs.refusing.report.Goals as goal
 pub returns-in_err-tell-clause-tells : goal.returns-in_err-tell-clause-tells
 returns-in_err-tell-clause-tells g c =
     let p = err_from_is_err_and c.from_residual-in_err-tell.result c.from_residual-in_err-tell.ensures.1 in
-    let h = opened c.args.image.now.lines.items in
+    let h = opened (snapshot_of c.args.image.now) in
     let x = c.args.exploration.now in
     let text = c.in_ok-text.ensures.text
     ∙ ap (λ f. refusals h (inputs_of_lines f) (inputs_of_lines c.deref-2.result.now) c.deref-3.result.now) c.deref.ensures.value

@@ -7,7 +7,17 @@ use Rattle.file_journal.specs.Object.{JournalState}
 use Rattle.file_pages.specs.Fresh.{IsOfUnit, Takes, durable_cell}
 use Rattle.file_actions.specs.Made.{AreAsBefore}
 use Rattle.file_actions.proofs.PreparedLemmas.{before-trans, before-write_back}
+use Rattle.file_actions.proofs.preparing.write_page.Given as given
 use Rattle.file_actions.proofs.preparing.write_page.Goals as goal
+use Rattle.file_actions.proofs.preparing.write_page.Goals.{After-fresh_page}
+
+before : (g : given.Over) (c : goal.After-fresh_page g) → AreAsBefore c.args.files.now (g.L.Lines.state c.args.dev.now).medium c.fresh_page.new.self (g.L.Lines.state c.fresh_page.new.dev).medium
+before g c =
+    let said = c.fresh_page.ensures in
+    let old = (g.L.Lines.state c.args.dev.now).medium in
+    let mid = (g.L.Lines.state c.build_page.new.dev).medium in
+    before-trans _ _ _ old mid _ (before-write_back c.args.files.now c.build_page.new.files old mid c.requires.tables c.in_ok-build_page.ensures.object.0 c.requires.serves c.in_ok-build_page.ensures.lines)
+    (record { geo = said.object.0; tables = said.object.1; files = said.files; outside = said.outside; metadata = said.metadata; serves = said.serves })
 
 pub returns-in_err-build_page-clause-before : goal.returns-in_err-build_page-clause-before
 returns-in_err-build_page-clause-before g c =
@@ -15,26 +25,10 @@ returns-in_err-build_page-clause-before g c =
     c.in_err-build_page.ensures.lines
 
 pub returns-in-Ok-clause-before : goal.returns-in-Ok-clause-before
-returns-in-Ok-clause-before g c =
-    let said = c.in-Ok.ensures in
-    let old = (g.L.Lines.state c.args.dev.now).medium in
-    let mid = (g.L.Lines.state c.build_page.new.dev).medium in
-    let new = (g.L.Lines.state c.fresh_page.new.dev).medium in
-    let x = before-write_back c.args.files.now c.build_page.new.files old mid c.requires.tables c.in_ok-build_page.ensures.object.0 c.requires.serves c.in_ok-build_page.ensures.lines in
-    let y : AreAsBefore c.build_page.new.files mid c.fresh_page.new.self new =
-    record { geo = said.object.0; tables = said.object.1; files = said.files; outside = said.outside; metadata = said.metadata; serves = said.serves } in
-    before-trans _ _ _ old mid new x y
+returns-in-Ok-clause-before g c = before g (goal.at.returns-in-Ok-clause-before g c).After-fresh_page
 
 pub returns-in-Err-clause-before : goal.returns-in-Err-clause-before
-returns-in-Err-clause-before g c =
-    let said = c.in-Err.ensures in
-    let old = (g.L.Lines.state c.args.dev.now).medium in
-    let mid = (g.L.Lines.state c.build_page.new.dev).medium in
-    let new = (g.L.Lines.state c.fresh_page.new.dev).medium in
-    let x = before-write_back c.args.files.now c.build_page.new.files old mid c.requires.tables c.in_ok-build_page.ensures.object.0 c.requires.serves c.in_ok-build_page.ensures.lines in
-    let y : AreAsBefore c.build_page.new.files mid c.fresh_page.new.self new =
-    record { geo = said.object.0; tables = said.object.1; files = said.files; outside = said.outside; metadata = said.metadata; serves = said.serves } in
-    before-trans _ _ _ old mid new x y
+returns-in-Err-clause-before g c = before g (goal.at.returns-in-Err-clause-before g c).After-fresh_page
 
 pub returns-in-Ok-clause-page : goal.returns-in-Ok-clause-page
 returns-in-Ok-clause-page g c =

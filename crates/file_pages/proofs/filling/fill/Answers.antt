@@ -4,7 +4,7 @@ use Rattle.line_device.specs.Panel.{Runs}
 use Rattle.line_words.specs.Ending.{ended}
 use Rattle.word_log.specs.Changes.{commit_calls, commit_persists}
 use Rattle.page_table.specs.Pages.{used_pages}
-use Rattle.nvm_model.specs.Page.{absent_among}
+use Rattle.nvm_model.specs.Page.{absent_among, absent_touched}
 use Rattle.nvm_model.specs.Files.{OneFileLeft, on_pages}
 use Rattle.nvm_model.specs.Lines.{AreGood}
 use Rattle.nvm_model.specs.Listing.{change_file, file_name}
@@ -19,34 +19,31 @@ use Rattle.file_journal.proofs.ServesLemmas.{journal-same}
 use Rattle.file_pages.specs.Fresh.{AreFresh}
 use Rattle.file_pages.specs.Object.{pages_there}
 use Rattle.file_pages.proofs.FillLemmas.{covered_same, file_same, fill_runs, holes_touched_are, no_holes, not_empty, some_holes, there_same, unfilled-files, unfilled-images}
+use Rattle.file_pages.proofs.filling.fill.Given as given
 use Rattle.file_pages.proofs.filling.fill.Goals as goal
+use Rattle.file_pages.proofs.filling.fill.Goals.{After-take_units-fresh}
+
+holes : (g : given.Over) (c : goal.After-take_units-fresh g) → length c.take_units-fresh.result.items ≡ absent_touched c.args.span.start c.args.span.len (pages_there c.args.journal.now c.args.inode)
+holes g c =
+    let s = c.args.journal.now in
+    let j = c.take_units-fresh.new.journal in
+    let pages = c.pages_of-pages.result in
+    let there = there_same s j j.free c.take_units-fresh.ensures.journal (g.L.Lines.state c.args.dev.now).medium c.args.inode in
+    holes_touched_are (pages_there s c.args.inode) c.args.span pages (length c.take_units-fresh.result.items) c.pages_of-pages.ensures.value (c.take_units-fresh.ensures.fresh.number ∙ ap (λ bs. absent_among bs pages.start pages.len) there)
 
 pub returns-then-is_empty-clause-ok : goal.returns-then-is_empty-clause-ok
 returns-then-is_empty-clause-ok g c = λ files file at.
     let s = c.args.journal.now in
-    let j = c.take_units-fresh.new.journal in
-    let e = c.take_units-fresh.ensures.journal in
     let old = (g.L.Lines.state c.args.dev.now).medium in
-    let pages = c.pages_of-pages.result in
-    let there = pages_there s c.args.inode in
-    let n = length c.take_units-fresh.result.items in
-    let holes = holes_touched_are there c.args.span pages n c.pages_of-pages.ensures.value (c.take_units-fresh.ensures.fresh.number ∙ ap (λ bs. absent_among bs pages.start pages.len) (there_same s j j.free e old c.args.inode)) in
-    let none = no_holes there c.args.span n c.requires.storable.some holes (eqb-true n 0 (sym c.is_empty.ensures ∙ c.if-is_empty.true)) in
-    subst (λ (t : JournalState). FilesStand s.geo old t.tables (change_file file_name file.name (on_pages (λ p. fill c.args.span.start c.args.span.len p)) files)) (sym e)
+    let none = no_holes _ _ _ c.requires.storable.some (holes g (goal.at.returns-then-is_empty-clause-ok g c).After-take_units-fresh) (eqb-true _ 0 (sym c.is_empty.ensures ∙ c.if-is_empty.true)) in
+    subst (λ (t : JournalState). FilesStand s.geo old t.tables (change_file file_name file.name (on_pages (λ p. fill c.args.span.start c.args.span.len p)) files)) (sym c.take_units-fresh.ensures.journal)
     (unfilled-files s old c.args.inode c.requires.tables c.args.span none files file at)
 
 pub returns-then-is_empty-clause-images : goal.returns-then-is_empty-clause-images
 returns-then-is_empty-clause-images g c = λ files file at.
     let s = c.args.journal.now in
-    let j = c.take_units-fresh.new.journal in
-    let e = c.take_units-fresh.ensures.journal in
-    let old = (g.L.Lines.state c.args.dev.now).medium in
-    let pages = c.pages_of-pages.result in
-    let there = pages_there s c.args.inode in
-    let n = length c.take_units-fresh.result.items in
-    let holes = holes_touched_are there c.args.span pages n c.pages_of-pages.ensures.value (c.take_units-fresh.ensures.fresh.number ∙ ap (λ bs. absent_among bs pages.start pages.len) (there_same s j j.free e old c.args.inode)) in
-    let none = no_holes there c.args.span n c.requires.storable.some holes (eqb-true n 0 (sym c.is_empty.ensures ∙ c.if-is_empty.true)) in
-    unfilled-images s old c.args.inode c.requires.tables c.args.span none files file at c.requires.serves
+    let none = no_holes _ _ _ c.requires.storable.some (holes g (goal.at.returns-then-is_empty-clause-images g c).After-take_units-fresh) (eqb-true _ 0 (sym c.is_empty.ensures ∙ c.if-is_empty.true)) in
+    unfilled-images s (g.L.Lines.state c.args.dev.now).medium c.args.inode c.requires.tables c.args.span none files file at c.requires.serves
 
 pub returns-then-is_empty-clause-outside : goal.returns-then-is_empty-clause-outside
 returns-then-is_empty-clause-outside g c = others-refl _ _
@@ -58,28 +55,14 @@ fill_with-requires-clause-serves g c =
 
 pub fill_with-requires-clause-room : goal.fill_with-requires-clause-room
 fill_with-requires-clause-room g c =
-    let s = c.args.journal.now in
-    let j = c.take_units-fresh.new.journal in
     let e = c.take_units-fresh.ensures.journal in
-    let old = (g.L.Lines.state c.args.dev.now).medium in
-    let pages = c.pages_of-pages.result in
-    let there = pages_there s c.args.inode in
-    let n = length c.take_units-fresh.result.items in
-    let holes = holes_touched_are there c.args.span pages n c.pages_of-pages.ensures.value (c.take_units-fresh.ensures.fresh.number ∙ ap (λ bs. absent_among bs pages.start pages.len) (there_same s j j.free e old c.args.inode)) in
-    omega (arith, c.requires.storable.room, holes, ap (λ (t : JournalState). used_pages t.tables.pages) e, ap (λ (t : JournalState). t.geo.fpages) e, ap length c.as_slice.ensures.value)
+    let few = holes g (goal.at.fill_with-requires-clause-room g c).After-take_units-fresh in
+    omega (arith, c.requires.storable.room, few, ap (λ (t : JournalState). used_pages t.tables.pages) e, ap (λ (t : JournalState). t.geo.fpages) e, ap length c.as_slice.ensures.value)
 
 pub fill_with-requires-clause-good : goal.fill_with-requires-clause-good
 fill_with-requires-clause-good g c =
-    let s = c.args.journal.now in
-    let j = c.take_units-fresh.new.journal in
-    let e = c.take_units-fresh.ensures.journal in
-    let old = (g.L.Lines.state c.args.dev.now).medium in
-    let pages = c.pages_of-pages.result in
-    let there = pages_there s c.args.inode in
-    let n = length c.take_units-fresh.result.items in
-    let holes = holes_touched_are there c.args.span pages n c.pages_of-pages.ensures.value (c.take_units-fresh.ensures.fresh.number ∙ ap (λ bs. absent_among bs pages.start pages.len) (there_same s j j.free e old c.args.inode)) in
-    let some = some_holes there c.args.span n c.requires.storable.some holes (not_empty n (sym c.is_empty.ensures ∙ c.if-is_empty.false)) in
-    subst (λ (t : JournalState). AreGood old (meta_lines t.geo)) (sym e) (c.requires.storable.good some)
+    let some = some_holes _ _ _ c.requires.storable.some (holes g (goal.at.fill_with-requires-clause-good g c).After-take_units-fresh) (not_empty _ (sym c.is_empty.ensures ∙ c.if-is_empty.false)) in
+    subst (λ (t : JournalState). AreGood (g.L.Lines.state c.args.dev.now).medium (meta_lines t.geo)) (sym c.take_units-fresh.ensures.journal) (c.requires.storable.good some)
 
 pub fill_with-requires-clause-covered : goal.fill_with-requires-clause-covered
 fill_with-requires-clause-covered g c =
@@ -92,45 +75,24 @@ fill_with-requires-clause-fresh g c =
 
 pub returns-clause-ok : goal.returns-clause-ok
 returns-clause-ok g c =
-    let s = c.args.journal.now in
     let j = c.take_units-fresh.new.journal in
     let e = c.take_units-fresh.ensures.journal in
-    let old = (g.L.Lines.state c.args.dev.now).medium in
-    let pages = c.pages_of-pages.result in
-    let there = pages_there s c.args.inode in
-    let n = length c.take_units-fresh.result.items in
-    let holes = holes_touched_are there c.args.span pages n c.pages_of-pages.ensures.value (c.take_units-fresh.ensures.fresh.number ∙ ap (λ bs. absent_among bs pages.start pages.len) (there_same s j j.free e old c.args.inode)) in
-    let new = (g.L.Lines.state c.fill_with.new.dev).medium in
     on_ok-then c.fill_with.result
     (λ done files file at.
-    subst (λ (t : JournalState). FilesStand t.geo new c.fill_with.new.journal.tables (change_file file_name file.name (on_pages (λ p. fill c.args.span.start c.args.span.len p)) files)) e
-    (done files file (file_same s j j.free e old c.args.inode files file at)))
+    subst (λ (t : JournalState). FilesStand t.geo (g.L.Lines.state c.fill_with.new.dev).medium c.fill_with.new.journal.tables (change_file file_name file.name (on_pages (λ p. fill c.args.span.start c.args.span.len p)) files)) e
+    (done files file (file_same c.args.journal.now j j.free e (g.L.Lines.state c.args.dev.now).medium c.args.inode files file at)))
     c.fill_with.ensures.ok
 
 pub returns-clause-images : goal.returns-clause-images
 returns-clause-images g c = λ files file at.
-    let s = c.args.journal.now in
     let j = c.take_units-fresh.new.journal in
     let e = c.take_units-fresh.ensures.journal in
-    let old = (g.L.Lines.state c.args.dev.now).medium in
-    let pages = c.pages_of-pages.result in
-    let there = pages_there s c.args.inode in
-    let n = length c.take_units-fresh.result.items in
-    let holes = holes_touched_are there c.args.span pages n c.pages_of-pages.ensures.value (c.take_units-fresh.ensures.fresh.number ∙ ap (λ bs. absent_among bs pages.start pages.len) (there_same s j j.free e old c.args.inode)) in
-    let new = (g.L.Lines.state c.fill_with.new.dev).medium in
-    subst (λ (t : JournalState). EachReadsFiles t.geo new (OneFileLeft file.name (λ was left. (left ≡ was) ⊎ (left ≡ fill c.args.span.start c.args.span.len was)) files)) e
-    (c.fill_with.ensures.images files file (file_same s j j.free e old c.args.inode files file at))
+    subst (λ (t : JournalState). EachReadsFiles t.geo (g.L.Lines.state c.fill_with.new.dev).medium (OneFileLeft file.name (λ was left. (left ≡ was) ⊎ (left ≡ fill c.args.span.start c.args.span.len was)) files)) e
+    (c.fill_with.ensures.images files file (file_same c.args.journal.now j j.free e (g.L.Lines.state c.args.dev.now).medium c.args.inode files file at))
 
 pub returns-clause-held : goal.returns-clause-held
 returns-clause-held g c =
-    let s = c.args.journal.now in
-    let j = c.take_units-fresh.new.journal in
     let e = c.take_units-fresh.ensures.journal in
-    let old = (g.L.Lines.state c.args.dev.now).medium in
-    let pages = c.pages_of-pages.result in
-    let there = pages_there s c.args.inode in
-    let n = length c.take_units-fresh.result.items in
-    let holes = holes_touched_are there c.args.span pages n c.pages_of-pages.ensures.value (c.take_units-fresh.ensures.fresh.number ∙ ap (λ bs. absent_among bs pages.start pages.len) (there_same s j j.free e old c.args.inode)) in
     on_ok-then c.fill_with.result
     (λ known. omega (
       arith,
@@ -147,15 +109,9 @@ returns-clause-held g c =
 pub returns-clause-runs : goal.returns-clause-runs
 returns-clause-runs g c =
     let s = c.args.journal.now in
-    let j = c.take_units-fresh.new.journal in
-    let e = c.take_units-fresh.ensures.journal in
-    let old = (g.L.Lines.state c.args.dev.now).medium in
-    let pages = c.pages_of-pages.result in
-    let there = pages_there s c.args.inode in
-    let n = length c.take_units-fresh.result.items in
-    let holes = holes_touched_are there c.args.span pages n c.pages_of-pages.ensures.value (c.take_units-fresh.ensures.fresh.number ∙ ap (λ bs. absent_among bs pages.start pages.len) (there_same s j j.free e old c.args.inode)) in
-    let some = some_holes there c.args.span n c.requires.storable.some holes (not_empty n (sym c.is_empty.ensures ∙ c.if-is_empty.false)) in
+    let few = holes g (goal.at.returns-clause-runs g c).After-take_units-fresh in
+    let some = some_holes _ _ _ c.requires.storable.some few (not_empty _ (sym c.is_empty.ensures ∙ c.if-is_empty.false)) in
     let p = (g.L.Lines.state c.args.dev.now).panel in
     let q = (g.L.Lines.state c.fill_with.new.dev).panel in
-    fill_runs s c.args.inode c.args.span n _ p q holes some
+    fill_runs s c.args.inode c.args.span _ _ p q few some
     (subst (λ (k : ℕ). Runs (64 * k + commit_calls (5 + k)) (commit_persists (5 + k)) (ended c.fill_with.result) p q) (ap length c.as_slice.ensures.value) c.fill_with.ensures.runs)

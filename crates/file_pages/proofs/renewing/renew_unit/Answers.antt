@@ -6,76 +6,48 @@ use Rattle.page_lines.proofs.ResultLemmas.{on_ok-then}
 use Rattle.file_journal.proofs.FileLineLemmas.{page_line_within}
 use Rattle.file_journal.proofs.StandingLemmas.{unit_line_in}
 use Rattle.file_pages.specs.Fresh.{durable_cell}
-use Rattle.file_pages.proofs.RenewLemmas.{of_unit, renewed-files, renewed-images, renewed-marks, renewed-outside, renewed-serves}
+use Rattle.file_pages.proofs.RenewLemmas.{IsRenewed, of_unit, renewed-files, renewed-images, renewed-marks, renewed-outside, renewed-serves}
+use Rattle.file_pages.proofs.renewing.renew_unit.Given as given
 use Rattle.file_pages.proofs.renewing.renew_unit.Goals as goal
+use Rattle.file_pages.proofs.renewing.renew_unit.Goals.{After-renew_lines}
+
+renewed : (g : given.Over) (c : goal.After-renew_lines g) → IsRenewed c.args.journal.now (g.L.Lines.state c.args.dev.now).medium (g.L.Lines.state c.renew_lines.new.dev).medium c.args.unit
+renewed g c = record {
+  valid = c.geometry.ensures.valid;
+  are = c.used-used.ensures.tables;
+  serves = c.requires.serves;
+  below = c.requires.below;
+  vacant = c.requires.vacant;
+  beside = of_unit c.args.journal.now.geo c.args.unit c.file_line.result (length c.args.bytes.now) _ _ (c.file_line.ensures ∙ ap (λ (geo : Geometry). file_line geo c.args.unit) c.geometry.ensures.geometry) c.requires.length c.renew_lines.ensures.outside;
+}
 
 pub renew_lines-requires-clause-there : goal.renew_lines-requires-clause-there
 renew_lines-requires-clause-there g c =
     let s = c.args.journal.now in
-    let first = c.file_line.ensures ∙ ap (λ (geo : Geometry). file_line geo c.args.unit) c.geometry.ensures.geometry in
     let last = page_line_within s.geo (file_line s.geo c.args.unit + 63 % 64) (unit_line_in s.geo c.args.unit 63 c.requires.below) in
-    omega (arith, first, last, c.requires.length, c.requires.serves.count)
+    omega (arith, c.file_line.ensures ∙ ap (λ (geo : Geometry). file_line geo c.args.unit) c.geometry.ensures.geometry, last, c.requires.length, c.requires.serves.count)
 
 pub returns-clause-lines : goal.returns-clause-lines
 returns-clause-lines g c =
-    let s = c.args.journal.now in
-    let old = (g.L.Lines.state c.args.dev.now).medium in
-    let new = (g.L.Lines.state c.renew_lines.new.dev).medium in
-    let first = c.file_line.ensures ∙ ap (λ (geo : Geometry). file_line geo c.args.unit) c.geometry.ensures.geometry in
-    let x = of_unit s.geo c.args.unit c.file_line.result (length c.args.bytes.now) old new first c.requires.length c.renew_lines.ensures.outside in
+    let at = c.file_line.ensures ∙ ap (λ (geo : Geometry). file_line geo c.args.unit) c.geometry.ensures.geometry in
     on_ok-then c.renew_lines.result
-    (λ holds k below. subst (λ n. CellStands new (n + k) (durable_cell (take 64 (drop (64 * k) c.args.bytes.now)))) first (holds k (omega (arith, below, c.requires.length))))
+    (λ holds k below. subst (λ n. CellStands (g.L.Lines.state c.renew_lines.new.dev).medium (n + k) (durable_cell (take 64 (drop (64 * k) c.args.bytes.now)))) at (holds k (omega (arith, below, c.requires.length))))
     c.renew_lines.ensures.ok
 
 pub returns-clause-beside : goal.returns-clause-beside
-returns-clause-beside g c =
-    let s = c.args.journal.now in
-    let old = (g.L.Lines.state c.args.dev.now).medium in
-    let new = (g.L.Lines.state c.renew_lines.new.dev).medium in
-    let first = c.file_line.ensures ∙ ap (λ (geo : Geometry). file_line geo c.args.unit) c.geometry.ensures.geometry in
-    of_unit s.geo c.args.unit c.file_line.result (length c.args.bytes.now) old new first c.requires.length c.renew_lines.ensures.outside
+returns-clause-beside g c = (renewed g (goal.at.returns-clause-beside g c).After-renew_lines).beside
 
 pub returns-clause-files : goal.returns-clause-files
-returns-clause-files g c =
-    let s = c.args.journal.now in
-    let old = (g.L.Lines.state c.args.dev.now).medium in
-    let new = (g.L.Lines.state c.renew_lines.new.dev).medium in
-    let first = c.file_line.ensures ∙ ap (λ (geo : Geometry). file_line geo c.args.unit) c.geometry.ensures.geometry in
-    let x = of_unit s.geo c.args.unit c.file_line.result (length c.args.bytes.now) old new first c.requires.length c.renew_lines.ensures.outside in
-    renewed-files s old new c.geometry.ensures.valid c.used-used.ensures.tables c.requires.serves c.args.unit c.requires.below c.requires.vacant x
+returns-clause-files g c = renewed-files (renewed g (goal.at.returns-clause-files g c).After-renew_lines)
 
 pub returns-clause-images : goal.returns-clause-images
-returns-clause-images g c =
-    let s = c.args.journal.now in
-    let old = (g.L.Lines.state c.args.dev.now).medium in
-    let new = (g.L.Lines.state c.renew_lines.new.dev).medium in
-    let first = c.file_line.ensures ∙ ap (λ (geo : Geometry). file_line geo c.args.unit) c.geometry.ensures.geometry in
-    let x = of_unit s.geo c.args.unit c.file_line.result (length c.args.bytes.now) old new first c.requires.length c.renew_lines.ensures.outside in
-    renewed-images s old new c.geometry.ensures.valid c.used-used.ensures.tables c.requires.serves c.args.unit c.requires.below c.requires.vacant x
+returns-clause-images g c = renewed-images (renewed g (goal.at.returns-clause-images g c).After-renew_lines)
 
 pub returns-clause-outside : goal.returns-clause-outside
-returns-clause-outside g c =
-    let s = c.args.journal.now in
-    let old = (g.L.Lines.state c.args.dev.now).medium in
-    let new = (g.L.Lines.state c.renew_lines.new.dev).medium in
-    let first = c.file_line.ensures ∙ ap (λ (geo : Geometry). file_line geo c.args.unit) c.geometry.ensures.geometry in
-    let x = of_unit s.geo c.args.unit c.file_line.result (length c.args.bytes.now) old new first c.requires.length c.renew_lines.ensures.outside in
-    renewed-outside s old new c.geometry.ensures.valid c.used-used.ensures.tables c.requires.serves c.args.unit c.requires.below c.requires.vacant x
+returns-clause-outside g c = renewed-outside (renewed g (goal.at.returns-clause-outside g c).After-renew_lines)
 
 pub returns-clause-metadata : goal.returns-clause-metadata
-returns-clause-metadata g c =
-    let s = c.args.journal.now in
-    let old = (g.L.Lines.state c.args.dev.now).medium in
-    let new = (g.L.Lines.state c.renew_lines.new.dev).medium in
-    let first = c.file_line.ensures ∙ ap (λ (geo : Geometry). file_line geo c.args.unit) c.geometry.ensures.geometry in
-    let x = of_unit s.geo c.args.unit c.file_line.result (length c.args.bytes.now) old new first c.requires.length c.renew_lines.ensures.outside in
-    renewed-marks s old new c.geometry.ensures.valid c.used-used.ensures.tables c.requires.serves c.args.unit c.requires.below c.requires.vacant x
+returns-clause-metadata g c = renewed-marks (renewed g (goal.at.returns-clause-metadata g c).After-renew_lines)
 
 pub returns-clause-serves : goal.returns-clause-serves
-returns-clause-serves g c =
-    let s = c.args.journal.now in
-    let old = (g.L.Lines.state c.args.dev.now).medium in
-    let new = (g.L.Lines.state c.renew_lines.new.dev).medium in
-    let first = c.file_line.ensures ∙ ap (λ (geo : Geometry). file_line geo c.args.unit) c.geometry.ensures.geometry in
-    let x = of_unit s.geo c.args.unit c.file_line.result (length c.args.bytes.now) old new first c.requires.length c.renew_lines.ensures.outside in
-    renewed-serves s old new c.geometry.ensures.valid c.used-used.ensures.tables c.requires.serves c.args.unit c.requires.below c.requires.vacant x
+returns-clause-serves g c = renewed-serves (renewed g (goal.at.returns-clause-serves g c).After-renew_lines)

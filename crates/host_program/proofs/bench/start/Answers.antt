@@ -1,4 +1,4 @@
-use Rattle.std.proofs.Common.{arith}
+use Rattle.std.proofs.Common.{arith, refl}
 use Rattle.std.proofs.lemmas.Result.{err_from_is_err_and}
 use Rattle.recovery.proofs.FreshLemmas.{fresh_first, fresh_told}
 use Rattle.recovery.proofs.SuperblockLemmas.{some_lines}
@@ -23,4 +23,4 @@ returns-clause-started g c =
     let made = c.in_ok-format.ensures in
     let done = c.in_ok-mount.ensures in
     is_started c.in_ok-mount.field-0 (g.D.Lines.state c.args.device.now) mid (g.D.Lines.state c.mount.new.device) made.ok (fresh_told bench_sizes mid.medium made.ok (g.met.D.Lines.sound c.format.new.device))
-    made.sets_up done.serves (done.stands (new_image bench_sizes) (depicts_new bench_sizes mid.medium made.ok)) done.runs
+    made.sets_up done.serves (done.stands (new_image bench_sizes) (depicts_new bench_sizes mid.medium made.ok) refl) done.runs

@@ -13,6 +13,6 @@ returns g c =
       wrote = read.lines;
       outcome = (
         refl,
-        are_last (g.D.Lines.state c.args.device.now).medium c.in_ok-image.image c.in_ok-write.field-0.items c.requires.fit read.unit read.image c.in_ok-write.ensures.text,
+        are_last c.args.unit (g.D.Lines.state c.args.device.now).medium c.in_ok-image.image c.in_ok-write.field-0.items c.requires.known c.requires.fit read.unit read.image c.in_ok-write.ensures.text,
       );
     }

@@ -15,11 +15,11 @@ returns-in_err-tell g c left reads =
     let text = checked_ready c.args.name.now (g.F.Images.held c.args.images.now) c.in_ok-host.host (g.D.Lines.state c.args.device.now) (g.D.Lines.state c.open.new.device) ready c.lines.result c.bad_lines-bad.result c.lines.ensures c.bad_lines-bad.ensures in
     let line = IfOk-weaker c.checked.result _ _ (λ l is. is ∙ text) c.checked.ensures in
     rw (p.1, p.2) (inr (record {
-      lines = ready.lines;
+      image = ready.image;
       there = ready.held_there;
       right = ready.mounted.right;
       cause = unwritten c.in_err-tell.field-0.0 old new (λ is. inl (c.in_err-tell.ensures.cause is));
-      wrote = told_front c.checked.result c.tell.result (checked_text ready.lines) old.written new.written line c.tell.ensures.bytes;
+      wrote = told_front c.checked.result c.tell.result (checked_text ready.image) old.written new.written line c.tell.ensures.bytes;
       tells = ready.mounted.tells;
       held = c.in_ok-host.ensures.held;
       counts = c.in_ok-host.ensures.counts;
@@ -32,10 +32,10 @@ returns g c left reads =
     let text = checked_ready c.args.name.now (g.F.Images.held c.args.images.now) c.in_ok-host.host (g.D.Lines.state c.args.device.now) (g.D.Lines.state c.open.new.device) ready c.lines.result c.bad_lines-bad.result c.lines.ensures c.bad_lines-bad.ensures in
     let line = IfOk-weaker c.checked.result _ _ (λ l is. is ∙ text) c.checked.ensures in
     record {
-      lines = ready.lines;
+      image = ready.image;
       there = ready.held_there;
       right = ready.mounted.right;
-      wrote = told_all c.checked.result c.tell.result (checked_text ready.lines) (g.K.Sink.written c.args.replies.now) (g.K.Sink.written c.tell.new.replies) c.in_ok-tell.field-0 line c.tell.ensures.bytes c.in_ok-tell.was;
+      wrote = told_all c.checked.result c.tell.result (checked_text ready.image) (g.K.Sink.written c.args.replies.now) (g.K.Sink.written c.tell.new.replies) c.in_ok-tell.field-0 line c.tell.ensures.bytes c.in_ok-tell.was;
       tells = ready.mounted.tells;
       held = c.in_ok-host.ensures.held;
       counts = c.in_ok-host.ensures.counts;

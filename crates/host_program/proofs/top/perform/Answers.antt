@@ -5,7 +5,11 @@ use Rattle.host_program.proofs.top.perform.Goals as goal
 
 pub returns-in-New-clause-usage : goal.returns-in-New-clause-usage
 returns-in-New-clause-usage g c is =
-    absurd (never_new c.in-New.image.now c.in-New.geometry c.create.result _ _ (c.create.ensures (g.D.Lines.state c.args.device.now) (g.T.Source.left c.args.script.now) (g.T.Source.count c.args.script.now)) is)
+    absurd (never_new 8 c.in-New.image.now c.in-New.geometry c.create.result _ _ (c.create.ensures (g.D.Lines.state c.args.device.now) (g.T.Source.left c.args.script.now) (g.T.Source.count c.args.script.now)) is)
+
+pub returns-in-NewByte-clause-usage : goal.returns-in-NewByte-clause-usage
+returns-in-NewByte-clause-usage g c is =
+    absurd (never_new 1 c.in-NewByte.image.now c.in-NewByte.geometry c.create-in-NewByte.result _ _ (c.create-in-NewByte.ensures (g.D.Lines.state c.args.device.now) (g.T.Source.left c.args.script.now) (g.T.Source.count c.args.script.now)) is)
 
 pub returns-in-Check-clause-usage : goal.returns-in-Check-clause-usage
 returns-in-Check-clause-usage g c is =

@@ -1,8 +1,9 @@
-use Rattle.std.proofs.Common.{inl, inr}
+use Rattle.std.proofs.Common.{inl, inr, sym, subst}
 use Rattle.std.proofs.lemmas.Result.{err_from_is_err_and}
+use Rattle.line_device.specs.Panel.{IsUnit}
 use Rattle.program_base.specs.World.{world}
 use Rattle.program_base.specs.declared.ending.Ending.TheVariants.{Memory}
-use Rattle.host_program.proofs.FormLemmas.{run_over, served_settled}
+use Rattle.host_program.proofs.FormLemmas.{run_over, served_settled, unit_settled}
 use Rattle.host_program.proofs.GoingLemmas.{memory_not_source, memory_not_write}
 use Rattle.host_program.proofs.RestLemmas.{fit_served, rests-unsettled}
 use Rattle.host_program.proofs.RunLemmas.{halts-unperformed, halts-unstored}
@@ -34,7 +35,10 @@ store-requires g c =
     let serves = served_settled c.args.from.now (g.F.Images.held c.args.images.now) c.in_ok-host.host c.run_script.new.host c.settle.new.self (g.T.Source.left c.args.script.now) (g.T.Source.left c.run_script.new.script)
     (g.K.Sink.written c.args.replies.now) (g.K.Sink.written c.run_script.new.replies) (g.D.Lines.state c.args.device.now) opened ran (g.D.Lines.state c.settle.new.device) c.in_ok-host.ensures.ready
     c.in_ok-run_script.ensures.performs c.in_ok-settle.ensures.settled in
-    record { fit = fit_served c.settle.new.self (g.D.Lines.state c.settle.new.device) serves }
+    let known = unit_settled c.args.from.now (g.F.Images.held c.args.images.now) c.in_ok-host.host c.run_script.new.host c.settle.new.self (g.T.Source.left c.args.script.now) (g.T.Source.left c.run_script.new.script)
+    (g.K.Sink.written c.args.replies.now) (g.K.Sink.written c.run_script.new.replies) (g.D.Lines.state c.args.device.now) opened ran (g.D.Lines.state c.settle.new.device) c.in_ok-host.ensures.ready
+    c.in_ok-run_script.ensures.performs c.in_ok-settle.ensures.settled in
+    record { known = subst IsUnit (sym c.unit.ensures) known; fit = fit_served c.settle.new.self (g.D.Lines.state c.settle.new.device) serves }
 
 pub returns : goal.returns
 returns g c =
@@ -44,5 +48,5 @@ returns g c =
     let ran = g.D.Lines.state c.run_script.new.device in
     let rest = g.D.Lines.state c.settle.new.device in
     let ready = c.in_ok-host.ensures in
-    run_over c.args.from.now c.args.to.now c.in_ok-host.host c.run_script.new.host c.settle.new.self opened ran rest (g.F.Images.held c.open.new.images) (g.F.Images.count c.open.new.images) c.store.result old new
-    ready.ready c.in_ok-run_script.ensures.performs c.in_ok-settle.ensures.settled (g.met.D.Lines.sound c.settle.new.device) ready.held ready.counts c.store.ensures
+    run_over c.args.from.now c.args.to.now c.unit.result c.in_ok-host.host c.run_script.new.host c.settle.new.self opened ran rest (g.F.Images.held c.open.new.images) (g.F.Images.count c.open.new.images) c.store.result old new
+    c.unit.ensures ready.ready c.in_ok-run_script.ensures.performs c.in_ok-settle.ensures.settled (g.met.D.Lines.sound c.settle.new.device) ready.held ready.counts c.store.ensures

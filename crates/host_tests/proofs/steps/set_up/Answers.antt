@@ -32,7 +32,7 @@ mount-requires-clause-flushed c p there = fresh_flushed sizes _ c.in_ok-format.e
 
 -- its one image
 now : Medium → Image
-now m = record { count = m.count; is_bad = m.is_bad; is_weak = m.is_weak; word = last_image m }
+now m = record { count = m.count; is_bad = m.is_bad; is_weak = m.is_weak; unit = 8; word = last_image m }
 
 depicted : (m : Medium) → IsFresh sizes m → Depicts m (now m)
 unfolding now
@@ -49,5 +49,5 @@ returns c =
     record {
       serves = c.in_ok-host.ensures.serves;
       state = _;
-      stands = c.in_ok-host.ensures.stands (now _) (depicted _ fresh);
+      stands = c.in_ok-host.ensures.stands (now _) (depicted _ fresh) refl;
     }

@@ -9,4 +9,4 @@ returns-clause-serves g c =
     let m = (g.D.Lines.state c.restart.new.self).medium in
     let geo = c.args.geo in
     served (AreDurable geo m (states_read geo (last_image m))) (g.D.Lines.state c.mount.new.dev).medium c.mount.result
-    (names_durable geo c.args.choice _ _ m (g.met.D.Lines.sound c.restart.new.self) c.switch_off.ensures.lines c.requires.end c.in_ok-restart.ensures.1.lines (states_read geo (last_image m))) c.mount.ensures.serves
+    (names_durable geo _ c.args.choice _ _ m (g.met.D.Lines.sound c.restart.new.self) c.switch_off.ensures.lines c.requires.end c.in_ok-restart.ensures.1.lines (states_read geo (last_image m))) c.mount.ensures.serves

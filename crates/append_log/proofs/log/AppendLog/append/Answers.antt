@@ -120,7 +120,7 @@ returns-in_err-write_line-clause-images g c =
     let handed = c.from_residual-in_err-write_line.ensures.1 in
     worked-through (Unit {0}) _ _ _ f r handed
     (λ each.
-    subst (λ (t : LogState). (log : List (Option (List ℕ))) → HoldsLog t m log → EachLeft t.volume.geo mid (λ left. LogStands left log ⊎ LogStands left (log ++ Some c.args.record.now ∷ []))) c.self.view_is
+    subst (λ (t : LogState). (log : List (Option (List ℕ))) → HoldsLog t m log → EachLeft 8 t.volume.geo mid (λ left. LogStands left log ⊎ LogStands left (log ++ Some c.args.record.now ∷ []))) c.self.view_is
     (λ log holds. record-images s m c.args.record.now tested log mid c.record_line.result _ c.record_line.ensures.length each (λ left stands. inl stands) holds)) c.in_err-write_line.ensures.images
 
 pub returns-in_err-write_line-clause-outside : goal.returns-in_err-write_line-clause-outside
@@ -221,7 +221,7 @@ returns-in_err-write_line-2-clause-images g c =
     let handed = c.from_residual-in_err-write_line-2.ensures.1 in
     worked-through (Unit {0}) _ _ _ f r handed
     (λ each.
-    subst (λ (t : LogState). (log : List (Option (List ℕ))) → HoldsLog t m log → EachLeft t.volume.geo last (λ left. LogStands left log ⊎ LogStands left (log ++ Some c.args.record.now ∷ []))) c.self.view_is
+    subst (λ (t : LogState). (log : List (Option (List ℕ))) → HoldsLog t m log → EachLeft 8 t.volume.geo last (λ left. LogStands left log ⊎ LogStands left (log ++ Some c.args.record.now ∷ []))) c.self.view_is
     (λ log holds. count-images s c.write_line.new.volume m mid c.args.record.now c.record_line.result recorded c.count_line.result c.count_line.ensures.length c.write_line-2.ensures.bytes c.count_line.ensures.count log holds last each)) c.in_err-write_line-2.ensures.images
 
 pub returns-in_err-write_line-2-clause-outside : goal.returns-in_err-write_line-2-clause-outside
@@ -322,7 +322,7 @@ returns-clause-images g c =
       held = c.in_ok-write_line.ensures.ok;
     } in
     let last = (g.L.Lines.state c.write_line-2.new.dev).medium in
-    subst (λ (t : LogState). (log : List (Option (List ℕ))) → HoldsLog t m log → EachLeft t.volume.geo last (λ left. LogStands left log ⊎ LogStands left (log ++ Some c.args.record.now ∷ []))) c.self.view_is
+    subst (λ (t : LogState). (log : List (Option (List ℕ))) → HoldsLog t m log → EachLeft 8 t.volume.geo last (λ left. LogStands left log ⊎ LogStands left (log ++ Some c.args.record.now ∷ []))) c.self.view_is
     (λ log holds. count-images s c.write_line.new.volume m mid c.args.record.now c.record_line.result recorded c.count_line.result c.count_line.ensures.length c.write_line-2.ensures.bytes c.count_line.ensures.count log holds last c.in_ok-write_line-2.ensures.images)
 
 pub returns-clause-outside : goal.returns-clause-outside

@@ -24,8 +24,8 @@ loop-w-preserved c =
     let beside : (v : ℕ) → (v ≡ w → ⊥) → word_at new v ≡ word_at old v =
     (λ v other. word-past (8 * w) v eight old new c.put.ensures.bytes (ap (λ (b : List ℕ). reaches (8 * w) (length b) v) is ∙ reaches-other_word w v (λ e. other (sym e)))) in (
       λ v below.
-          elim (cases_eq v w) as (λ _. survivor_of (Seed c.args.seed) (place v) (history (place v)) ≡ word_at new v ∷ []) [
-            | inl same ↦ ap (λ k. survivor_of (Seed c.args.seed) (place k) (history (place k))) same ∙ c.drawn_word-value.ensures ∙ ap (λ x. x ∷ []) (sym on) ∙ ap (λ k. word_at new k ∷ []) (sym same)
+          elim (cases_eq v w) as (λ _. survivor_of c.args.unit (Seed c.args.seed) (place v) (history (place v)) ≡ word_at new v ∷ []) [
+            | inl same ↦ ap (λ k. survivor_of c.args.unit (Seed c.args.seed) (place k) (history (place k))) same ∙ c.drawn_word-value.ensures ∙ ap (λ x. x ∷ []) (sym on) ∙ ap (λ k. word_at new k ∷ []) (sym same)
             | inr other ↦ c.loop-w.invariant.0 v (omega arith) ∙ ap (λ x. x ∷ []) (sym (beside v other))
           ],
       λ v from below. c.loop-w.invariant.1 v (omega arith) below ∙ ap (λ x. x ∷ []) (sym (beside v (λ same. absurd (omega arith)))),

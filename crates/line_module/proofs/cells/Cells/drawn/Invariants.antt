@@ -7,5 +7,5 @@ use Rattle.line_module.proofs.cells.Cells.drawn.Given as goal
 
 abbrev pub invariant-loop-w : goal.invariant-loop-w
 invariant-loop-w l =
-    ((v : ℕ) → v < l.w → survivor_of (Seed l.seed) (8 * l.line.0 + v) ((cells_medium l.self).history (8 * l.line.0 + v)) ≡ word_at l.bytes v ∷ [])
-    × ((v : ℕ) → l.w ≤ v → v < 8 → survivor_of Firsts (8 * l.line.0 + v) ((cells_medium l.self).history (8 * l.line.0 + v)) ≡ word_at l.bytes v ∷ [])
+    ((v : ℕ) → v < l.w → survivor_of l.unit (Seed l.seed) (8 * l.line.0 + v) ((cells_medium l.self).history (8 * l.line.0 + v)) ≡ word_at l.bytes v ∷ [])
+    × ((v : ℕ) → l.w ≤ v → v < 8 → survivor_of l.unit Firsts (8 * l.line.0 + v) ((cells_medium l.self).history (8 * l.line.0 + v)) ≡ word_at l.bytes v ∷ [])

@@ -6,7 +6,7 @@ use Rattle.line_module.proofs.cells.Cells.restart.Given as goal
 
 abbrev pub invariant-loop-line : goal.invariant-loop-line
 invariant-loop-line l = record {
-  medium : cells_medium l.self ≡ restarted_below l.choice l.line (cells_medium l.fn.self);
+  medium : cells_medium l.self ≡ restarted_below l.unit l.choice l.line (cells_medium l.fn.self);
   order : (n : ℕ) → n < l.line → has n l.self.order ≡ false;
 }
 

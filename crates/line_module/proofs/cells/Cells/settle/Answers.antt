@@ -43,7 +43,7 @@ returns-then-is_dirty c =
     let line = c.args.line.0 in
     let m = cells_medium s in
     let good = dirty_good s line (dirty_state s line true c.requires (sym c.is_dirty.ensures ∙ c.if-is_dirty.true)) in
-    let change = λ (w : ℕ) (h : List ℕ). survivor_of c.args.choice (8 * line + w) h in
+    let change = λ (w : ℕ) (h : List ℕ). survivor_of c.args.unit c.args.choice (8 * line + w) h in
     let medium : cells_medium c.renew.new.self ≡ record m { history = on_line line change m.history } = c.renew.ensures.medium ∙ on_line-renewed m line c.survivors-bytes.result change good c.survivors-bytes.ensures in
     λ i. record { medium = medium i; order = c.renew.ensures.order i }
 
@@ -54,11 +54,11 @@ returns-else-is_dirty c =
     let m = cells_medium s in
     let quiet = dirty_state s line false c.requires (sym c.is_dirty.ensures ∙ c.if-is_dirty.false) in
     let state = slice_get s.states.items line in
-    let change = λ (w : ℕ) (h : List ℕ). survivor_of c.args.choice (8 * line + w) h in
+    let change = λ (w : ℕ) (h : List ℕ). survivor_of c.args.unit c.args.choice (8 * line + w) h in
     let medium : m ≡ record m { history = on_line line change m.history } =
     on_line-same m line change
     (λ w below.
     let shown = history-line s.durable s.states.items line w below in
-    ap (survivor_of c.args.choice (8 * line + w)) shown ∙ quiet_kept (slice_get s.durable line) state w (8 * line + w) c.args.choice quiet below ∙ sym shown) in
+    ap (survivor_of c.args.unit c.args.choice (8 * line + w)) shown ∙ quiet_kept (slice_get s.durable line) state w (8 * line + w) c.args.unit c.args.choice quiet below ∙ sym shown) in
     let order : s.order ≡ without line s.order = sym (without_none line s.order (quiet_unlisted s line quiet)) in
     λ i. record { medium = medium i; order = order i }

@@ -52,11 +52,11 @@ returns-clause-serves g c =
     }
 
 pub returns-clause-stands : goal.returns-clause-stands
-returns-clause-stands g c = λ image shows.
+returns-clause-stands g c = λ image shows by_unit.
     let old = (g.D.Lines.state c.args.device.now) in
     let new = (g.D.Lines.state c.mount.new.dev) in
     let x = c.in_ok-mounted.ensures in
-    stands_found _ old new image (g.met.D.Lines.sound c.args.device.now) c.requires.flushed x.finds shows x.ok.0 refl x.ok.2 x.ok.4 (ap (λ (f : HeldFiles). f.pages.journal.tables) c.of.ensures ∙ x.ok.6) x.outside (returns-clause-metadata g c)
+    stands_found _ old new image (g.met.D.Lines.sound c.args.device.now) c.requires.flushed x.finds shows by_unit (x.runs.orders.unit ∙ sym c.requires.unit) x.ok.0 refl x.ok.2 x.ok.4 (ap (λ (f : HeldFiles). f.pages.journal.tables) c.of.ensures ∙ x.ok.6) x.outside (returns-clause-metadata g c)
     (returns-clause-serves g c) (ap (λ (f : HeldFiles). f.mappings) c.of.ensures)
     (subst (λ (f : HeldFiles). (files : List File) → FilesStand f.pages.journal.geo new.medium f.pages.journal.tables files → f.events.items ≡ restart_events files) (sym c.of.ensures) x.events)
 

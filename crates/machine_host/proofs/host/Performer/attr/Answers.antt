@@ -6,8 +6,8 @@ use Rattle.machine_host.proofs.host.Performer.attr.Goals as goal
 
 pub returns-in-Some : goal.returns-in-Some
 returns-in-Some g c = attr_answered c.args.self.now _ c.args.name.now _ c.requires.serves
-    (ap told_value (sym c.in-Some.is ∙ c.value.ensures) ∙ ap (λ h. told_value (attribute c.args.name.now h.geometry)) c.self.view_is)
+    (ap told_value (sym c.in-Some.is ∙ c.value.ensures) ∙ ap (λ h. told_value (attribute c.args.name.now h.geometry h.unit)) c.self.view_is)
 
 pub returns-in-None : goal.returns-in-None
 returns-in-None g c = attr_answered c.args.self.now _ c.args.name.now _ c.requires.serves
-    (ap told_value (sym c.in-None.is ∙ c.value.ensures) ∙ ap (λ h. told_value (attribute c.args.name.now h.geometry)) c.self.view_is)
+    (ap told_value (sym c.in-None.is ∙ c.value.ensures) ∙ ap (λ h. told_value (attribute c.args.name.now h.geometry h.unit)) c.self.view_is)

@@ -15,8 +15,8 @@ pub returns : goal.returns
 returns g c =
     let said = c.create-call.ensures in
     let now = c.args.self.now in
-    let host : HostState = record { geometry = c.self.inside.geometry; mode = c.self.inside.mode; blocks = c.self.inside.blocks; volume = c.self.inside.volume; files = record { pages = record { journal = c.journal_mut.result.now; settled = c.self.inside.files.pages.settled }; mappings = c.self.inside.files.mappings; events = c.self.inside.files.events } } in
-    let inside : host ≡ now = ap (λ (j : JournalState). let k : HostState = record { geometry = c.self.inside.geometry; mode = c.self.inside.mode; blocks = c.self.inside.blocks; volume = c.self.inside.volume; files = record { pages = record { journal = j; settled = c.self.inside.files.pages.settled }; mappings = c.self.inside.files.mappings; events = c.self.inside.files.events } } in k) c.journal_mut.ensures.value ∙ c.self.view_is in
+    let host : HostState = record { geometry = c.self.inside.geometry; unit = c.self.inside.unit; mode = c.self.inside.mode; blocks = c.self.inside.blocks; volume = c.self.inside.volume; files = record { pages = record { journal = c.journal_mut.result.now; settled = c.self.inside.files.pages.settled }; mappings = c.self.inside.files.mappings; events = c.self.inside.files.events } } in
+    let inside : host ≡ now = ap (λ (j : JournalState). let k : HostState = record { geometry = c.self.inside.geometry; unit = c.self.inside.unit; mode = c.self.inside.mode; blocks = c.self.inside.blocks; volume = c.self.inside.volume; files = record { pages = record { journal = j; settled = c.self.inside.files.pages.settled }; mappings = c.self.inside.files.mappings; events = c.self.inside.files.events } } in k) c.journal_mut.ensures.value ∙ c.self.view_is in
     let old = g.D.Lines.state c.args.device.now in
     change_answered now host _ _ c.create-call.result _ _ 5 (put_file file_name (new_file c.args.name.now c.args.pages)) old _ inside c.journal_answer.ensures.state c.requires.on c.requires.serves
     (files_called g.D.Lines.state host _ c.create-call.result _ _ 5 _ _ said.refused said.untouched said.ok said.images said.outside said.serves said.object said.units said.runs)

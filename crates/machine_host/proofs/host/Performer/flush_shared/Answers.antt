@@ -20,7 +20,7 @@ unreachable-requires g c =
 pub tell_flushed-requires-clause-room : goal.tell_flushed-requires-clause-room
 tell_flushed-requires-clause-room g c =
     let now = c.args.self.now in
-    let host : HostState = record { geometry = c.self.inside.geometry; mode = c.self.inside.mode; blocks = c.self.inside.blocks; volume = c.self.inside.volume; files = c.self.inside.files } in
+    let host : HostState = record { geometry = c.self.inside.geometry; unit = c.self.inside.unit; mode = c.self.inside.mode; blocks = c.self.inside.blocks; volume = c.self.inside.volume; files = c.self.inside.files } in
     let old = g.D.Lines.state c.args.device.now in
     let said = c.flush_file-call.ensures.said in
     let here : inode_of c.args.info.now.name host.files.pages.journal.tables.files ≡ Some c.in-Some.inode = ap (λ (j : JournalState). inode_of c.args.info.now.name j.tables.files) (sym c.journal.ensures) ∙ sym c.in-Some.ensures.value in
@@ -31,7 +31,7 @@ tell_flushed-requires-clause-room g c =
 pub returns : goal.returns
 returns g c = λ action row wide.
     let now = c.args.self.now in
-    let host : HostState = record { geometry = c.self.inside.geometry; mode = c.self.inside.mode; blocks = c.self.inside.blocks; volume = c.self.inside.volume; files = c.self.inside.files } in
+    let host : HostState = record { geometry = c.self.inside.geometry; unit = c.self.inside.unit; mode = c.self.inside.mode; blocks = c.self.inside.blocks; volume = c.self.inside.volume; files = c.self.inside.files } in
     let told = told_of now.files.mappings.mappings c.args.handle c.args.info.now c.requires.told in
     let here : inode_of c.args.info.now.name host.files.pages.journal.tables.files ≡ Some c.in-Some.inode = ap (λ (j : JournalState). inode_of c.args.info.now.name j.tables.files) (sym c.journal.ensures) ∙ sym c.in-Some.ensures.value in
     flush_told g.D.Lines.state now host c.flushed.new.self c.flush_file-call.new.pages c.tell_flushed.new.self c.flush_file-call.result c.args.handle c.in-Some.inode c.args.look c.args.spans.now

@@ -9,7 +9,7 @@ use Rattle.machine_host.proofs.host.Performer.fread_at.Goals as goal
 pub returns-in-Some : goal.returns-in-Some
 returns-in-Some g c =
     let name = c.args.name.now in
-    let host : HostState = record { geometry = c.self.inside.geometry; mode = c.self.inside.mode; blocks = c.self.inside.blocks; volume = c.self.inside.volume; files = c.self.inside.files } in
+    let host : HostState = record { geometry = c.self.inside.geometry; unit = c.self.inside.unit; mode = c.self.inside.mode; blocks = c.self.inside.blocks; volume = c.self.inside.volume; files = c.self.inside.files } in
     let here : inode_of name host.files.pages.journal.tables.files ≡ Some c.args.inode = ap (λ (k : HostState). inode_of name k.files.pages.journal.tables.files) c.self.view_is ∙ c.requires.named in (
       misread_answered c.args.self.now host _ name c.args.inode c.args.offset c.args.len c.in-Some.why c.self.view_is c.requires.on c.requires.serves here
           (c.in-Some.ensures

@@ -22,7 +22,7 @@ pub returns-in-Ok : goal.returns-in-Ok
 returns-in-Ok g c =
     let said = c.in-Ok.ensures in
     let now = c.args.self.now in
-    let host : HostState = record { geometry = c.self.inside.geometry; mode = c.self.inside.mode; blocks = c.self.inside.blocks; volume = c.self.inside.volume; files = c.self.inside.files } in
+    let host : HostState = record { geometry = c.self.inside.geometry; unit = c.self.inside.unit; mode = c.self.inside.mode; blocks = c.self.inside.blocks; volume = c.self.inside.volume; files = c.self.inside.files } in
     let name = c.args.name.now in
     let asked : length (take c.args.len c.args.work.now) ≡ c.args.len = head_length c.args.len c.args.work.now c.requires.wide c.requires.few in
     let here : inode_of name host.files.pages.journal.tables.files ≡ Some c.args.inode = ap (λ (k : HostState). inode_of name k.files.pages.journal.tables.files) c.self.view_is ∙ c.requires.named in
@@ -32,7 +32,7 @@ returns-in-Ok g c =
     let rest = drop c.args.len c.args.work.now in
     let long : length out ≡ c.args.len = c.load_into.auto.out ∙ asked in (
       read_answered now host _ c.load_into.new.self (Ok tt) name c.args.inode c.args.offset c.args.len _ (g.D.Lines.state c.args.device.now) (g.D.Lines.state c.load_into.new.dev) c.self.view_is
-          (ap (λ m. record { geometry = c.self.inside.geometry; mode = m; blocks = c.self.inside.blocks; volume = c.self.inside.volume; files = record { pages = c.load_into.new.self; mappings = c.self.inside.files.mappings; events = c.self.inside.files.events } }) (ap (λ k. k.mode) c.self.view_is ∙ c.requires.on))
+          (ap (λ m. record { geometry = c.self.inside.geometry; unit = c.self.inside.unit; mode = m; blocks = c.self.inside.blocks; volume = c.self.inside.volume; files = record { pages = c.load_into.new.self; mappings = c.self.inside.files.mappings; events = c.self.inside.files.events } }) (ap (λ k. k.mode) c.self.view_is ∙ c.requires.on))
           c.requires.on c.requires.serves here (subst (λ n. lines_there host.files.pages.journal c.args.inode c.args.offset n ≤ (units_of 64 (record { start = c.args.offset; len = c.args.len })).len) (sym asked) few) tt said.lines said.serves said.object said.runs _ c.requires.some c.requires.few
           (subst (λ (k : HostState). c.args.offset + c.args.len ≤ 4096 * pages_at k.files.pages.journal.tables.files c.args.inode) (sym c.self.view_is) c.requires.within)
           (λ files file at. subst (λ n. Answers page_says (read_refusal file.pages c.args.offset n) (Ok tt)) asked (said.refused files file at))
@@ -45,7 +45,7 @@ pub returns-in-Err : goal.returns-in-Err
 returns-in-Err g c =
     let said = c.in-Err.ensures in
     let now = c.args.self.now in
-    let host : HostState = record { geometry = c.self.inside.geometry; mode = c.self.inside.mode; blocks = c.self.inside.blocks; volume = c.self.inside.volume; files = c.self.inside.files } in
+    let host : HostState = record { geometry = c.self.inside.geometry; unit = c.self.inside.unit; mode = c.self.inside.mode; blocks = c.self.inside.blocks; volume = c.self.inside.volume; files = c.self.inside.files } in
     let name = c.args.name.now in
     let asked : length (take c.args.len c.args.work.now) ≡ c.args.len = head_length c.args.len c.args.work.now c.requires.wide c.requires.few in
     let here : inode_of name host.files.pages.journal.tables.files ≡ Some c.args.inode = ap (λ (k : HostState). inode_of name k.files.pages.journal.tables.files) c.self.view_is ∙ c.requires.named in
@@ -54,7 +54,7 @@ returns-in-Err g c =
     let told = sym c.page_fault.ensures.answer in
     let short = subst (λ a. most_of a ≤ 72) told (short_told (page_answer name) (pages_part name).short (page_says c.in-Err.fault)) in (
       read_answered now host _ c.load_into.new.self (Err c.in-Err.fault) name c.args.inode c.args.offset c.args.len _ (g.D.Lines.state c.args.device.now) (g.D.Lines.state c.load_into.new.dev) c.self.view_is
-          (c.page_fault.ensures.state ∙ ap (λ m. record { geometry = c.self.inside.geometry; mode = page_fault_mode m c.in-Err.fault; blocks = c.self.inside.blocks; volume = c.self.inside.volume; files = record { pages = c.load_into.new.self; mappings = c.self.inside.files.mappings; events = c.self.inside.files.events } }) (ap (λ k. k.mode) c.self.view_is ∙ c.requires.on))
+          (c.page_fault.ensures.state ∙ ap (λ m. record { geometry = c.self.inside.geometry; unit = c.self.inside.unit; mode = page_fault_mode m c.in-Err.fault; blocks = c.self.inside.blocks; volume = c.self.inside.volume; files = record { pages = c.load_into.new.self; mappings = c.self.inside.files.mappings; events = c.self.inside.files.events } }) (ap (λ k. k.mode) c.self.view_is ∙ c.requires.on))
           c.requires.on c.requires.serves here (subst (λ n. lines_there host.files.pages.journal c.args.inode c.args.offset n ≤ (units_of 64 (record { start = c.args.offset; len = c.args.len })).len) (sym asked) few)
           (λ refused. let same = said.untouched refused in (same.0, ap (λ d. g.D.Lines.state d) same.2)) said.lines said.serves said.object said.runs _ c.requires.some c.requires.few
           (subst (λ (k : HostState). c.args.offset + c.args.len ≤ 4096 * pages_at k.files.pages.journal.tables.files c.args.inode) (sym c.self.view_is) c.requires.within)

@@ -14,7 +14,7 @@ use Rattle.machine_host.proofs.host.Performer.next_event.Goals.{in-Some, in-None
 
 pub returns : goal.returns
 returns g c =
-    let host : HostState = record { geometry = c.self.inside.geometry; mode = c.self.inside.mode; blocks = c.self.inside.blocks; volume = c.self.inside.volume; files = c.self.inside.files } in
+    let host : HostState = record { geometry = c.self.inside.geometry; unit = c.self.inside.unit; mode = c.self.inside.mode; blocks = c.self.inside.blocks; volume = c.self.inside.volume; files = c.self.inside.files } in
     let d = g.D.Lines.state c.args._device.now in
     let e : Stock Event = c.next.new.self in
     let said = c.next.ensures in

@@ -11,7 +11,7 @@ use Rattle.machine_host.proofs.host.Performer.poison_volume.Goals as goal
 
 pub returns : goal.returns
 returns g c =
-    let host : HostState = record { geometry = c.self.inside.geometry; mode = c.self.inside.mode; blocks = c.self.inside.blocks; volume = c.self.inside.volume; files = c.self.inside.files } in
+    let host : HostState = record { geometry = c.self.inside.geometry; unit = c.self.inside.unit; mode = c.self.inside.mode; blocks = c.self.inside.blocks; volume = c.self.inside.volume; files = c.self.inside.files } in
     let old = g.D.Lines.state c.args.device.now in
     let new = g.D.Lines.state c.poison_volume-call.new.dev in
     let said = c.poison_volume-call.ensures in

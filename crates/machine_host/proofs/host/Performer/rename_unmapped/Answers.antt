@@ -17,8 +17,8 @@ pub returns : goal.returns
 returns g c =
     let said = c.rename-call.ensures in
     let now = c.args.self.now in
-    let host : HostState = record { geometry = c.self.inside.geometry; mode = c.self.inside.mode; blocks = c.self.inside.blocks; volume = c.self.inside.volume; files = record { pages = record { journal = c.journal_mut.result.now; settled = c.self.inside.files.pages.settled }; mappings = c.self.inside.files.mappings; events = c.self.inside.files.events } } in
-    let inside : host ≡ now = ap (λ (j : JournalState). let k : HostState = record { geometry = c.self.inside.geometry; mode = c.self.inside.mode; blocks = c.self.inside.blocks; volume = c.self.inside.volume; files = record { pages = record { journal = j; settled = c.self.inside.files.pages.settled }; mappings = c.self.inside.files.mappings; events = c.self.inside.files.events } } in k) c.journal_mut.ensures.value ∙ c.self.view_is in
+    let host : HostState = record { geometry = c.self.inside.geometry; unit = c.self.inside.unit; mode = c.self.inside.mode; blocks = c.self.inside.blocks; volume = c.self.inside.volume; files = record { pages = record { journal = c.journal_mut.result.now; settled = c.self.inside.files.pages.settled }; mappings = c.self.inside.files.mappings; events = c.self.inside.files.events } } in
+    let inside : host ≡ now = ap (λ (j : JournalState). let k : HostState = record { geometry = c.self.inside.geometry; unit = c.self.inside.unit; mode = c.self.inside.mode; blocks = c.self.inside.blocks; volume = c.self.inside.volume; files = record { pages = record { journal = j; settled = c.self.inside.files.pages.settled }; mappings = c.self.inside.files.mappings; events = c.self.inside.files.events } } in k) c.journal_mut.ensures.value ∙ c.self.view_is in
     let free = ap (λ (k : HostState). is_mapped c.args.name.now k.files.mappings.mappings) inside ∙ c.requires.free in
     let old = g.D.Lines.state c.args.device.now in
     change_answered now host _ _ c.rename-call.result _ _ 5 (rename_file file_name c.args.name.now (with_name c.args.to.now)) old _ inside c.journal_answer.ensures.state c.requires.on c.requires.serves

@@ -24,7 +24,7 @@ mount-requires-clause-some g c =
 
 pub mounted-requires-clause-blocks : goal.mounted-requires-clause-blocks
 mounted-requires-clause-blocks g c =
-    c.in-Ok.ensures.serves (durable_flushed _ (flushed-restarted c.args.choice _ _ (g.met.D.Lines.sound c.args.device.now) c.in_ok-restart.ensures.1.lines))
+    c.in-Ok.ensures.serves (durable_flushed _ (flushed-restarted _ c.args.choice _ _ (g.met.D.Lines.sound c.args.device.now) c.in_ok-restart.ensures.1.lines))
 
 pub returns-in-Ok : goal.returns-in-Ok
 returns-in-Ok g c =

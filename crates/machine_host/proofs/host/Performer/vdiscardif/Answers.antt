@@ -12,7 +12,7 @@ pub returns : goal.returns
 returns g c =
     let said = c.discard_hint-call.ensures in
     let now = c.args.self.now in
-    let host : HostState = record { geometry = c.self.inside.geometry; mode = c.self.inside.mode; blocks = c.self.inside.blocks; volume = c.self.inside.volume; files = c.self.inside.files } in
+    let host : HostState = record { geometry = c.self.inside.geometry; unit = c.self.inside.unit; mode = c.self.inside.mode; blocks = c.self.inside.blocks; volume = c.self.inside.volume; files = c.self.inside.files } in
     let old = g.D.Lines.state c.args.device.now in
     let v = host.volume in
     work_answered volume_says volume_answer volume_part now host _ _ c.discard_hint-call.result _ _ old _ c.self.view_is c.volume_answer.ensures.state c.requires.on c.requires.serves (VDiscardIf c.args.page c.args.count)

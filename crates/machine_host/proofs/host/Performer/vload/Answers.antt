@@ -18,7 +18,7 @@ pub returns-in-Ok : goal.returns-in-Ok
 returns-in-Ok g c =
     let said = c.in-Ok.ensures in
     let now = c.args.self.now in
-    let host : HostState = record { geometry = c.self.inside.geometry; mode = c.self.inside.mode; blocks = c.self.inside.blocks; volume = c.self.inside.volume; files = c.self.inside.files } in
+    let host : HostState = record { geometry = c.self.inside.geometry; unit = c.self.inside.unit; mode = c.self.inside.mode; blocks = c.self.inside.blocks; volume = c.self.inside.volume; files = c.self.inside.files } in
     let old = g.D.Lines.state c.args.device.now in
     let new = g.D.Lines.state c.load_into.new.dev in
     let asked : length (take c.args.len c.args.work.now) ≡ c.args.len = head_length c.args.len c.args.work.now c.requires.wide c.requires.few in
@@ -26,7 +26,7 @@ returns-in-Ok g c =
     let rest = drop c.args.len c.args.work.now in
     let long : length out ≡ c.args.len = c.load_into.auto.out ∙ asked in (
       load_answered now host _ c.load_into.new.self (Ok tt) c.args.offset c.args.len _ (Unit {0}) old new c.self.view_is
-          (ap (λ m. record { geometry = c.self.inside.geometry; mode = m; blocks = c.self.inside.blocks; volume = c.load_into.new.self; files = c.self.inside.files }) (ap (λ k. k.mode) c.self.view_is ∙ c.requires.on))
+          (ap (λ m. record { geometry = c.self.inside.geometry; unit = c.self.inside.unit; mode = m; blocks = c.self.inside.blocks; volume = c.load_into.new.self; files = c.self.inside.files }) (ap (λ k. k.mode) c.self.view_is ∙ c.requires.on))
           c.requires.on c.requires.serves (omega (arith, asked)) tt said.lines said.serves said.object said.runs _ c.requires.some c.requires.within c.requires.few
           (λ pages holds. subst (λ n. Answers volume_says (load_refusal host.volume pages c.args.offset n) (Ok tt)) asked (said.refused pages holds))
           (λ h holds. ap (λ bytes. Bytes bytes) (head_is c.args.len out rest long ∙ said.ok h.volume holds ∙ ap (look h.volume c.args.offset) asked))
@@ -38,13 +38,13 @@ pub returns-in-Err : goal.returns-in-Err
 returns-in-Err g c =
     let said = c.in-Err.ensures in
     let now = c.args.self.now in
-    let host : HostState = record { geometry = c.self.inside.geometry; mode = c.self.inside.mode; blocks = c.self.inside.blocks; volume = c.self.inside.volume; files = c.self.inside.files } in
+    let host : HostState = record { geometry = c.self.inside.geometry; unit = c.self.inside.unit; mode = c.self.inside.mode; blocks = c.self.inside.blocks; volume = c.self.inside.volume; files = c.self.inside.files } in
     let old = g.D.Lines.state c.args.device.now in
     let new = g.D.Lines.state c.load_into.new.dev in
     let asked : length (take c.args.len c.args.work.now) ≡ c.args.len = head_length c.args.len c.args.work.now c.requires.wide c.requires.few in
     let told = sym c.volume_fault.ensures.answer in (
       load_answered now host _ c.load_into.new.self (Err c.in-Err.fault) c.args.offset c.args.len _ _ old new c.self.view_is
-          (c.volume_fault.ensures.state ∙ ap (λ m. record { geometry = c.self.inside.geometry; mode = volume_fault_mode m c.in-Err.fault; blocks = c.self.inside.blocks; volume = c.load_into.new.self; files = c.self.inside.files }) (ap (λ k. k.mode) c.self.view_is ∙ c.requires.on))
+          (c.volume_fault.ensures.state ∙ ap (λ m. record { geometry = c.self.inside.geometry; unit = c.self.inside.unit; mode = volume_fault_mode m c.in-Err.fault; blocks = c.self.inside.blocks; volume = c.load_into.new.self; files = c.self.inside.files }) (ap (λ k. k.mode) c.self.view_is ∙ c.requires.on))
           c.requires.on c.requires.serves (omega (arith, asked))
           (λ refused. let same = said.untouched refused in (same.0, ap (λ d. g.D.Lines.state d) same.1)) said.lines said.serves said.object said.runs _ c.requires.some c.requires.within c.requires.few
           (λ pages holds. subst (λ n. Answers {T = Unit {0}} volume_says (load_refusal host.volume pages c.args.offset n) (Err c.in-Err.fault)) asked (said.refused pages holds))

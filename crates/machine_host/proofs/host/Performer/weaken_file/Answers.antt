@@ -18,13 +18,13 @@ use Rattle.machine_host.proofs.host.Performer.weaken_file.Goals as goal
 pub returns-in_default : goal.returns-in_default
 returns-in_default g c =
     let name = c.args.name.now in
-    let host : HostState = record { geometry = c.self.inside.geometry; mode = c.self.inside.mode; blocks = c.self.inside.blocks; volume = c.self.inside.volume; files = c.self.inside.files } in
+    let host : HostState = record { geometry = c.self.inside.geometry; unit = c.self.inside.unit; mode = c.self.inside.mode; blocks = c.self.inside.blocks; volume = c.self.inside.volume; files = c.self.inside.files } in
     let none : None ≡ inode_of name host.files.pages.journal.tables.files = c.in_default.ensures.value ∙ ap (λ (j : JournalState). inode_of name j.tables.files) c.journal.ensures in
     missing_answered c.args.self.now host _ name (WeakenFile name c.args.offset) c.self.view_is c.requires.on c.requires.serves none refl (λ h. refl) (omega arith)
 
 pub returns-in_err-reserve_event : goal.returns-in_err-reserve_event
 returns-in_err-reserve_event g c =
-    let host : HostState = record { geometry = c.self.inside.geometry; mode = c.self.inside.mode; blocks = c.self.inside.blocks; volume = c.self.inside.volume; files = c.self.inside.files } in
+    let host : HostState = record { geometry = c.self.inside.geometry; unit = c.self.inside.unit; mode = c.self.inside.mode; blocks = c.self.inside.blocks; volume = c.self.inside.volume; files = c.self.inside.files } in
     let old = g.D.Lines.state c.args.device.now in
     let p = err_from_is_err_and c.from_residual.result c.from_residual.ensures.1 in
     let same : record host { files = c.reserve_event.new.self } ≡ c.args.self.now = ap (λ (f : HeldFiles). record host { files = f }) c.in_err-reserve_event.ensures.err ∙ c.self.view_is in
@@ -33,7 +33,7 @@ returns-in_err-reserve_event g c =
 
 pub returns : goal.returns
 returns g c =
-    let host : HostState = record { geometry = c.self.inside.geometry; mode = c.self.inside.mode; blocks = c.self.inside.blocks; volume = c.self.inside.volume; files = c.self.inside.files } in
+    let host : HostState = record { geometry = c.self.inside.geometry; unit = c.self.inside.unit; mode = c.self.inside.mode; blocks = c.self.inside.blocks; volume = c.self.inside.volume; files = c.self.inside.files } in
     let old = g.D.Lines.state c.args.device.now in
     let new = g.D.Lines.state c.weaken_file-call.new.dev in
     let said = c.weaken_file-call.ensures in

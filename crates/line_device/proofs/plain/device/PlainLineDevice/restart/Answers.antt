@@ -12,6 +12,7 @@ pub returns-clause-restarted : goal.returns-clause-restarted
 returns-clause-restarted c =
     let old = plain_medium c.args.self.now in
     let new = medium_of c.keep.new.self in
-    let survivors : Survivors c.args.choice old new = subst (Survivors c.args.choice old) (sym c.keep.ensures) (survivors-kept c.args.choice old (is_sound-plain c.args.self.now)) in
-    let start : Start = record { choice = c.args.choice; image = image_of new } in
-    (start, record { lines = survivors; asked = refl; image = depicts-survivors c.args.choice old new survivors; panel = ap panel_of c.restart.ensures })
+    let unit = c.args.self.now.switches.unit in
+    let survivors : Survivors unit c.args.choice old new = subst (Survivors unit c.args.choice old) (sym c.keep.ensures) (survivors-kept unit c.args.choice old (is_sound-plain c.args.self.now)) in
+    let start : Start = record { choice = c.args.choice; image = image_of unit new } in
+    (start, record { lines = survivors; asked = refl; unit = refl; image = depicts-survivors unit c.args.choice old new survivors; panel = ap panel_of c.restart.ensures })
