@@ -1,4 +1,4 @@
-use Rattle.std.proofs.Common.{[], ◌∷◌, refl, sym, ap, ◌∙◌, lit≤, arith}
+use Rattle.std.proofs.Common.{◌≡◌, [], ◌∷◌, refl, sym, ap, ◌∙◌, lit≤, arith}
 use Rattle.line_device.specs.History.{newest}
 use Rattle.line_device.specs.Medium.{Medium, last_image}
 use Rattle.line_device.specs.Panel.{Image}
@@ -43,11 +43,15 @@ depicted m fresh = record {
   words = λ p healthy. let one = fresh.words p healthy.0 in one ∙ ap (λ v. v ∷ []) (sym (ap newest one));
 }
 
+of_words : (m : Medium) → (now m).unit ≡ 8
+unfolding now
+of_words m = refl
+
 pub returns : goal.returns
 returns c =
     let fresh = c.in_ok-format.ensures.ok in
     record {
       serves = c.in_ok-host.ensures.serves;
       state = _;
-      stands = c.in_ok-host.ensures.stands (now _) (depicted _ fresh) refl;
+      stands = c.in_ok-host.ensures.stands (now _) (depicted _ fresh) (of_words _);
     }
