@@ -56,11 +56,9 @@ module _ (image : Image) (n at : ℕ) (bytes : List ℕ) where
       let is : Some (word_stored at bytes (8 * line + w) (image.word (8 * n + w) ∷ [])) ≡ Some history =
       sym (slice_get-map_from (word_stored at bytes) (8 * line) (list_from (λ p. image.word p ∷ []) (8 * n) 8) w
       ∙ ap (option_map (word_stored at bytes (8 * line + w))) (slice_get-list_from (λ p. image.word p ∷ []) (8 * n) 8 w small)) ∙ found in
-      record {
-        was = may_keep-in image.unit (image.word (8 * n + w)) history
-            (subst (IsIn (image.word (8 * n + w))) (same_Some _ history is) (first_kept at (8 * line + w) (image.word (8 * n + w)) bytes));
-        last = λ lasts. cc lasts;
-      }
+      let in_it : IsIn (image.word (8 * n + w)) history =
+      subst (IsIn (image.word (8 * n + w))) (same_Some _ history is) (first_kept at (8 * line + w) (image.word (8 * n + w)) bytes) in
+      record { was = may_keep-in image.unit (image.word (8 * n + w)) history in_it; last = λ lasts. cc lasts; whole = λ _. in_it }
 
   -- what was there before a store may be left of a line that it doesn't heal
   line_kept : (line : ℕ) → (covers at (length bytes) line ≡ true → image.is_bad n ≡ false) → KeepsCell Firsts image n (put_cell at bytes line (read_cell image n))

@@ -100,7 +100,7 @@ pub record FirstAnswered (all : List Seen) (tell : List Seen → Option Stop) (a
 
 -- an image that keeps words whole, with which nothing is wrong
 pub record AreMountable (image : Snapshot) : Type 0 where
-  pub right_form : IsSnapshot image
+  pub snapshot : IsSnapshot image
   pub unit : image.unit ≡ 8
   pub bytes : AllByRecursion IsOfBytes image.lines
   pub right : first_finding (medium_of image.lines) ≡ None

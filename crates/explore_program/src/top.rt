@@ -37,13 +37,13 @@ pub fn nvmexplore<D: LineDevice, F: Images, T: Source, K: Sink>(
         (world (D.state device.old) (F.held images.old) (F.count images.old) (T.left script.old) (T.count script.old) (K.written answers.old) (K.count answers.old))
         (world (D.state device.new) (F.held images.new) (F.count images.new) (T.left script.new) (T.count script.new) (K.written answers.new) (K.count answers.new)) }
 
-    // Or it came to no end, by a cause that its status tells, and then comes the status's line. Want of memory alone is free.
+    // Or it came to no end, by a cause that its status names, and then comes the status's line. Only running out of memory needs no cause.
     ensures early_end { 2 ≤ result → (name : List ℕ) → map (λ word. string_bytes word) words.now ≡ name ∷ []
         → EndsEarly name result
         (world (D.state device.old) (F.held images.old) (F.count images.old) (T.left script.old) (T.count script.old) (K.written answers.old) (K.count answers.old))
         (world (D.state device.new) (F.held images.new) (F.count images.new) (T.left script.new) (T.count script.new) (K.written answers.new) (K.count answers.new)) }
 
-    // Where nothing failed, the device neither, and a right image is held under the name, it ends well or for want of memory, or its
+    // Where nothing failed, the device neither, and a right image is held under the name, it ends well or is out of memory, or its
     // script is not taken or too long.
     ensures completeness { (name : List ℕ) → map (λ word. string_bytes word) words.now ≡ name ∷ [] → HoldsRight Words name (F.held images.old)
         → NothingFailed

@@ -94,6 +94,7 @@ own_survivors unit m lines sound quiet last = record {
           one = (depicted unit lines).words p line ∙ ap (λ v. v ∷ []) (told.words p good);
           was = may_keep-in unit (last_image m p) (m.history p) (sound.last p good);
           last = λ _. refl;
+          whole = λ firsts. cc firsts;
           first = λ firsts _. cc firsts;
         },
       );

@@ -1,4 +1,4 @@
-// The stated workload on a new device, and the summary of its replies.
+// The stated workload on a fresh device, and the summary of its replies.
 ghost use Rattle.std.specs.Prelude.{◌≡◌, ◌++◌, ℕ, List, IfErr, IfOk, OnOk, Option, decimal};
 ghost use Rattle.host_io.specs.Images.{Held};
 ghost use Rattle.host_io.specs.declared.images.ImageCounts.{ImageCounts};
@@ -11,7 +11,7 @@ ghost use Rattle.program_base.specs.World.{world};
 
 use crate::running::perform_line;
 use host_io::Sink;
-use line_device::LineDevice;
+use line_device::{LineDevice, WORD_UNIT};
 use machine_host::Host;
 use nvm_base::{Bytes, print_number};
 use program_base::{Ending, tell};
@@ -51,14 +51,14 @@ pub fn bench<D: LineDevice, K: Sink>(
     Ok(tell(summary_line(alloc, &summary), replies)?)
 }
 
-// Makes the device anew, and mounts it.
+// Makes the device a fresh one, and mounts it.
 fn start<D: LineDevice>(alloc: Global, device: &mut D) -> Result<Host, Ending>
     ensures started { IfOk result (λ host. IsStarted host (D.state device.old) (D.state device.new)) }
     ensures cause { IfErr result (λ ending. IsUnstarted ending (D.state device.old).panel (D.state device.new).panel) }
     ensures opens { Opens (D.state device.old).panel (D.state device.new).panel }
 {
     recovery::format(device, SIZES)?;
-    Ok(Host::mount(alloc, device, 8)?)
+    Ok(Host::mount(alloc, device, WORD_UNIT)?)
 }
 
 // Performs all lines, and counts their replies.

@@ -6,8 +6,7 @@ ghost use Rattle.word_tables.specs.Bounds.{IsValid};
 ghost use Rattle.host_program.specs.Storing.{ReadsOut, Stores};
 
 use host_io::Images;
-use image_file::BYTE_UNIT;
-use line_device::LineDevice;
+use line_device::{BYTE_UNIT, LineDevice};
 use nvm_base::Bytes;
 use program_base::Ending;
 use std::alloc::{AllocError, Global};

@@ -20,8 +20,8 @@ use crate::storing::{fresh_text, store};
 use crate::telling::checked;
 use command_line::{Form, read_words};
 use host_io::{Images, Sink, Source};
-use image_file::{BYTE_UNIT, Units, WORD_UNIT};
-use line_device::LineDevice;
+use image_file::Units;
+use line_device::{BYTE_UNIT, LineDevice, WORD_UNIT};
 use program_base::{Ending, numbered, open, tell};
 use std::alloc::Global;
 use word_tables::Geometry;
@@ -42,13 +42,13 @@ pub fn nvmhost<D: LineDevice, F: Images, T: Source, K: Sink>(
         (world (D.state device.old) (F.held images.old) (F.count images.old) (T.left script.old) (T.count script.old) (K.written replies.old) (K.count replies.old))
         (world (D.state device.new) (F.held images.new) (F.count images.new) (T.left script.new) (T.count script.new) (K.written replies.new) (K.count replies.new)) }
 
-    // Or it came to no end, by a cause that its status tells, and then comes the status's line. Want of memory alone is free.
+    // Or it came to no end, by a cause that its status names, and then comes the status's line. Only running out of memory needs no cause.
     ensures early_end { result ≢ 0 → (form : FormOfWords) → IsForm (map (λ word. string_bytes word) words.now) form
         → EndsEarly form result
         (world (D.state device.old) (F.held images.old) (F.count images.old) (T.left script.old) (T.count script.old) (K.written replies.old) (K.count replies.old))
         (world (D.state device.new) (F.held images.new) (F.count images.new) (T.left script.new) (T.count script.new) (K.written replies.new) (K.count replies.new)) }
 
-    // Where nothing failed, and a right image is held where one is asked for, it ends well or for want of memory, or its script is
+    // Where nothing failed, and a right image is held where one is asked for, it ends well or is out of memory, or its script is
     // too long.
     ensures completeness { (form : FormOfWords) → IsForm (map (λ word. string_bytes word) words.now) form → CanBegin form (F.held images.old)
         → NothingFailed

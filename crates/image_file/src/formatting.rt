@@ -4,9 +4,9 @@ ghost use Rattle.word_tables.specs.Bounds.{IsValid};
 ghost use Rattle.line_device.specs.Panel.{IsUnit};
 ghost use Rattle.image_file.specs.Text.{IsSnapshot, fresh_snapshot, snapshot_of, superblock_text};
 
-use crate::{BYTE_UNIT, Image, WORD_UNIT};
+use crate::Image;
 use byteorder::{ByteOrder, LittleEndian};
-use line_device::{LineList, LineState};
+use line_device::{BYTE_UNIT, LineList, LineState, WORD_UNIT};
 use std::alloc::{AllocError, Global};
 use word_tables::Geometry;
 
@@ -19,7 +19,7 @@ pub fn fresh(alloc: Global, geo: Geometry) -> Result<Image, AllocError>
     fresh_of(alloc, geo, WORD_UNIT)
 }
 
-/// The same of survival unit 1.
+/// The image of a fresh device of these sizes, of survival unit 1: its superblock, and then zeros.
 pub fn fresh_byte(alloc: Global, geo: Geometry) -> Result<Image, AllocError>
     requires { IsValid geo }
     ensures image { IfOk result (λ image. snapshot_of image ≡ fresh_snapshot 1 geo) }

@@ -42,12 +42,6 @@ pub enum Units {
 /// The first bytes of each image file.
 pub const MAGIC: &[u8; 8] = b"NVMIMG01";
 
-/// The survival unit of a device that keeps or loses a word whole at a power cut.
-pub const WORD_UNIT: u64 = 8;
-
-/// The survival unit of a device that keeps or loses each byte independently.
-pub const BYTE_UNIT: u64 = 1;
-
 /// The most lines of an image.
 pub const MOST_LINES: u64 = 118_016;
 

@@ -5,11 +5,9 @@ ghost use Rattle.image_file.specs.Text.{IsOfBytes, IsSnapshot, Snapshot, TakesUn
 ghost use Rattle.image_file.specs.WrongField.{field_number, unit_number};
 ghost use Rattle.image_file.specs.Results.{GivesImage, ReadsHead, ReadsImage, ReadsLine, ReadsLines};
 
-use crate::{
-    BAD, BYTE_UNIT, HEALTHY, Image, ImageFault, MAGIC, MOST_LINES, Units, WEAK, WORD_UNIT,
-};
+use crate::{BAD, HEALTHY, Image, ImageFault, MAGIC, MOST_LINES, Units, WEAK};
 use byteorder::{ByteOrder, LittleEndian};
-use line_device::{LineList, LineState};
+use line_device::{BYTE_UNIT, LineList, LineState, WORD_UNIT};
 use std::alloc::Global;
 
 // The bytes before the first line.

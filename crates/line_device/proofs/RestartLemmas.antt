@@ -13,12 +13,12 @@ use Rattle.line_device.proofs.PanelLemmas.{arms_nothing-refl}
 
 survives-first : (unit : ℕ) (choice : Choice) (weak : Bool) (h : List ℕ) → IsIn (newest h) h → (choice ≡ Lasts → ⊥) → (value : ℕ) × Survives unit choice weak h (take 1 h) value
 survives-first unit choice weak [] some other = absurd some
-survives-first unit choice weak (x ∷ xs) some other = (x, record { one = refl; was = may_keep-in unit x (x ∷ xs) (inl refl); last = λ is. absurd (other is); first = λ _ _. refl })
+survives-first unit choice weak (x ∷ xs) some other = (x, record { one = refl; was = may_keep-in unit x (x ∷ xs) (inl refl); last = λ is. absurd (other is); whole = λ _. inl refl; first = λ _ _. refl })
 
 survives-last : (unit : ℕ) (choice : Choice) (weak : Bool) (h : List ℕ) → IsIn (newest h) h → (choice ≡ Firsts → ⊥) → (value : ℕ) × Survives unit choice weak h (latest h) value
 survives-last unit choice weak [] some other = absurd some
 survives-last unit choice weak (x ∷ xs) some other =
-    (newest (x ∷ xs), record { one = latest-cons x xs; was = may_keep-in unit (newest (x ∷ xs)) (x ∷ xs) (is_in-newest x xs); last = λ _. refl; first = λ is _. absurd (other is) })
+    (newest (x ∷ xs), record { one = latest-cons x xs; was = may_keep-in unit (newest (x ∷ xs)) (x ∷ xs) (is_in-newest x xs); last = λ _. refl; whole = λ is. absurd (other is); first = λ is _. absurd (other is) })
 
 pub survivors-kept : (unit : ℕ) (choice : Choice) (m : Medium) → IsSound m → Survivors unit choice m (kept choice m)
 survivors-kept unit Firsts m sound = record {

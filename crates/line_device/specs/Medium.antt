@@ -83,7 +83,7 @@ pub record Weakens (line : ℕ) (old new : Medium) : Type 0 where
   pub marks : (n : ℕ) → new.is_weak n ≡ with_at old.is_weak line (not (old.is_bad line)) n
   pub write_back : WritesBack old (record new { is_weak = old.is_weak })
 
--- so many lines of zeros
+-- this many lines of zeros
 abbrev pub zeros : ℕ → Medium
 zeros count = record {
   count = count;
@@ -92,7 +92,7 @@ zeros count = record {
   history = λ p. if nat_lt (p / 8) count then 0 ∷ [] else [];
 }
 
--- the line is as told, and durable
+-- the line is as given, and durable
 abbrev pub installed : Medium → ℕ → LineState → Medium
 installed m line (Healthy bytes) = renewed m line false false (λ w. word_at bytes w ∷ [])
 installed m line (Weak bytes) = renewed m line false true (λ w. word_at bytes w ∷ [])
@@ -109,11 +109,13 @@ Shows m line (Healthy bytes) = (m.is_bad line ≡ false) × (m.is_weak line ≡ 
 Shows m line (Weak bytes) = (m.is_bad line ≡ false) × (m.is_weak line ≡ true) × IsLine m line bytes
 Shows m line Bad = m.is_bad line ≡ true
 
--- A word after the power came back: what the device's unit may keep of it, the last one or in a weak line the first where that was asked for.
+-- A word after the power came back: what the device's unit may keep of it. Where first values were asked for it is one of its values on any
+-- unit, in a weak line the first; where last ones were asked for it is the last.
 pub record Survives (unit : ℕ) (choice : Choice) (weak : Bool) (old new : List ℕ) (value : ℕ) : Type 0 where
   pub one : new ≡ value ∷ []
   pub was : MayKeep unit value old
   pub last : choice ≡ Lasts → value ≡ newest old
+  pub whole : choice ≡ Firsts → IsIn value old
   pub first : choice ≡ Firsts → IsTrue weak → take 1 old ≡ value ∷ []
 
 -- each healthy word has one of its values, and marks stay

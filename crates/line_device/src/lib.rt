@@ -10,6 +10,7 @@ mod lines;
 mod order;
 mod plain;
 mod switches;
+mod unit;
 mod words;
 
 pub use counts::Counts;
@@ -23,4 +24,5 @@ pub use lines::Lines;
 pub use order::Order;
 pub use plain::Plain;
 pub use switches::Switches;
+pub use unit::{BYTE_UNIT, WORD_UNIT};
 pub use words::{word_bytes, word_in};

@@ -106,7 +106,7 @@ write_back-memory_evict s (suc n) strong = decide (slice_get s.order 0) refl (λ
 survives-seed : (unit seed place : ℕ) (weak : Bool) (h : List ℕ) → IsIn (newest h) h → (value : ℕ) × Survives unit (Seed seed) weak h (survivor_of unit (Seed seed) place h) value
 survives-seed unit seed place weak [] some = absurd some
 survives-seed unit seed place weak (first ∷ h) some =
-    (drawn_word (unit == 1) seed place first h, record { one = refl; was = drawn-kept unit seed place first h; last = λ is. cc; first = λ is _. cc })
+    (drawn_word (unit == 1) seed place first h, record { one = refl; was = drawn-kept unit seed place first h; last = λ is. cc; whole = λ is. cc; first = λ is _. cc })
 
 -- each word keeps one value
 pub survivors-memory : (unit : ℕ) (choice : Choice) (s : Memory) → IsSound s.medium → Survivors unit choice s.medium (memory_after_restart unit s choice).medium

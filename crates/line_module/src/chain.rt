@@ -3,7 +3,7 @@ ghost use Rattle.std.specs.Vec.{vec_len};
 
 use crate::survivor;
 use arrayvec::ArrayVec;
-use line_device::{word_bytes, word_in};
+use line_device::{BYTE_UNIT, word_bytes, word_in};
 use std::alloc::{AllocError, Global};
 
 /// How many values of a word a chain has room for, beside the durable one.
@@ -72,7 +72,7 @@ impl Chain {
         requires small { place < 2 ^ 60 }
         ensures { result ≡ drawn_word (unit == 1) seed place first (values_in self.now w) }
     {
-        if unit == 1 {
+        if unit == BYTE_UNIT {
             self.mixed(seed, place, w, first)
         } else {
             self.drawn(seed, place, w, first)

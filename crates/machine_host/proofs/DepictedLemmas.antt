@@ -105,6 +105,7 @@ module _ (geo : Geometry) (m : Medium) (image : Image) (layout : IsGood geo m) (
             one = one;
             was = may_keep-in image.unit (image.word p) (m.history p) (subst (IsIn (image.word p)) (sym one) (inl refl));
             last = λ _. sym (ap newest one);
+            whole = λ firsts. cc firsts;
             first = λ _ _. ap (take 1) one;
           },
         );

@@ -52,7 +52,8 @@ word_kept : (choice : Choice) (image : Image) (p : ℕ) (history : List ℕ) →
 word_kept choice image p [] e = cc
 word_kept choice image p (x ∷ xs) e =
     let same : image.word p ≡ newest (x ∷ xs) = eqb-true (image.word p) (newest (x ∷ xs)) e in
-    record { was = may_keep-in image.unit (image.word p) (x ∷ xs) (subst (λ v. IsIn v (x ∷ xs)) (sym same) (newest-in x xs)); last = λ _. same }
+    let in_it : IsIn (image.word p) (x ∷ xs) = subst (λ v. IsIn v (x ∷ xs)) (sym same) (newest-in x xs) in
+    record { was = may_keep-in image.unit (image.word p) (x ∷ xs) in_it; last = λ _. same; whole = λ _. in_it }
 
 cell_kept : (choice : Choice) (image : Image) (n : ℕ) (cell : Cell) → cell_last image n cell ≡ true → KeepsCell choice image n cell
 cell_kept choice image n Bad e = e

@@ -2,7 +2,7 @@
 use Rattle.std.proofs.Common.{◌≡◌, ℕ, ◌+◌, ◌*◌, ◌/◌, ◌%◌, ◌<◌, Bool, true, false, cond, Option, Some, None, option_map, option_and_then, List, [], ◌∷◌, length, map, slice_get, slice_index_or, refl, sym, ap, subst, ◌∙◌, inl, arith}
 use Rattle.std.proofs.lemmas.Option.{slice_get-map, slice_get-get_or, slice_get_within}
 use Rattle.std.specs.Int.{byte_at}
-use Rattle.line_device.specs.History.{WordWritesBack, latest, newest, MayKeep}
+use Rattle.line_device.specs.History.{WordWritesBack, latest, newest, IsIn, MayKeep}
 use Rattle.line_device.specs.Medium.{Medium, IsHealthy, Survivors, Survives}
 use Rattle.line_device.specs.Panel.{Image}
 use Rattle.line_device.specs.Device.{Depicts}
@@ -26,6 +26,7 @@ is_kept unit choice weak history old new left value word_write_back survives is 
     record {
       was = subst (λ v. MayKeep unit v history) {x = left} (sym same) (may_keep-part unit left old history word_write_back.part survives.was);
       last = λ lasts. same ∙ survives.last lasts ∙ newest-word_write_back false history old word_write_back;
+      whole = λ firsts. subst (λ v. IsIn v history) {x = left} (sym same) (is_in-word_write_back false left history old word_write_back (survives.whole firsts));
     }
 
 -- what the power's return left is what it may leave of a line that the device stood for
@@ -112,7 +113,7 @@ keeps-read choice place image there n cell is =
           let small : w < 8 = omega (arith, slice_get_within (list_from (λ p. image.word p ∷ []) (8 * line) 8) w history found, length-list_from (λ p. image.word p ∷ []) (8 * line) 8) in
           let value : image.word (8 * line + w) ∷ [] ≡ history = cc (slice_get-list_from (λ p. image.word p ∷ []) (8 * line) 8 w small, found) in
           subst (λ h. MaySurvive image.unit choice h (image.word (8 * line + w))) value
-          (record { was = may_keep-in image.unit _ (image.word (8 * line + w) ∷ []) (inl refl); last = λ _. refl }),
+          (record { was = may_keep-in image.unit _ (image.word (8 * line + w) ∷ []) (inl refl); last = λ _. refl; whole = λ _. inl refl }),
     )
 
 -- a byte of words, once a restart left the last value of each

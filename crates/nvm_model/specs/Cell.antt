@@ -3,12 +3,12 @@ use Rattle.std.specs.Prelude.{◌≡◌, ◌+◌, ◌*◌, ◌/◌, ◌%◌, ◌
 use Rattle.std.specs.Int.{byte_at}
 use Rattle.std.specs.List.{range_with_len}
 use Rattle.nvm_base.specs.Units.{units_of}
-use Rattle.line_device.specs.History.{latest, newest, MayKeep}
+use Rattle.line_device.specs.History.{latest, newest, IsIn, MayKeep}
 use Rattle.line_device.specs.Medium.{Medium, word_stored}
 use Rattle.line_device.specs.History.{WordWritesBack}
 use Rattle.line_device.specs.Panel.{Image}
 use Rattle.line_device.specs.declared.line.Choice.{Choice}
-use Rattle.line_device.specs.declared.line.Choice.TheVariants.{Lasts}
+use Rattle.line_device.specs.declared.line.Choice.TheVariants.{Firsts, Lasts}
 use Rattle.nvm_model.specs.Numbered.{map_from, list_from}
 
 -- a bad line; or whether the line is weak, and the histories of its eight words
@@ -77,10 +77,12 @@ cell_byte (Kept weak words) i = byte_at (i % 8) (newest (slice_index_or words (i
 abbrev pub read_cell : Image → ℕ → Cell
 read_cell image n = if image.is_bad n then Bad else Kept (image.is_weak n) (list_from (λ p. image.word p ∷ []) (8 * n) 8)
 
--- what a restart of this unit may leave of a word: one of its values, or byte by byte, the last one where that was asked for
+-- What a restart of this unit may leave of a word: one of its values, or byte by byte. Where first values were asked for it is one of its
+-- values on any unit; where last ones were asked for it is the last.
 pub record MaySurvive (unit : ℕ) (choice : Choice) (history : List ℕ) (value : ℕ) : Type 0 where
   pub was : MayKeep unit value history
   pub last : choice ≡ Lasts → value ≡ newest history
+  pub whole : choice ≡ Firsts → IsIn value history
 
 -- what a restart may leave of line n
 abbrev pub KeepsCell : Choice → Image → ℕ → Cell → Type 0

@@ -1,4 +1,4 @@
-// Making a device anew: all zeros, and then its superblock.
+// Making a fresh device: all zeros, and then its superblock.
 ghost use Rattle.std.specs.Prelude.{◌≡◌, ◌<◌, ℕ, IsTrue, OnOk};
 ghost use Rattle.line_device.specs.Word.{word_at};
 ghost use Rattle.line_device.specs.Panel.{SetsUp, with_unit};
@@ -8,7 +8,7 @@ ghost use Rattle.word_tables.specs.Superblock.{superblock_word};
 ghost use Rattle.recovery.specs.Fresh.{IsFresh};
 
 use byteorder::{ByteOrder, LittleEndian};
-use line_device::{LineDevice, LineState, ResetFault};
+use line_device::{LineDevice, LineState, ResetFault, WORD_UNIT};
 use nvm_base::LineNo;
 use word_tables::Geometry;
 
@@ -21,7 +21,7 @@ pub fn format<D: LineDevice>(device: &mut D, geo: Geometry) -> Result<(), ResetF
     ensures unit { OnOk result ((D.state device.new).panel.unit ≡ 8) }
     ensures sets_up { SetsUp (setup_outcome result) (with_unit (D.state device.old).panel (D.state device.new).panel.unit) (D.state device.new).panel }
 {
-    device.reset(geo.total_lines(), 8)?;
+    device.reset(geo.total_lines(), WORD_UNIT)?;
     device.install(LineNo(0), &LineState::Healthy(superblock_line(geo)))
 }
 

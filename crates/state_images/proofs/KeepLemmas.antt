@@ -53,7 +53,8 @@ keeps-cell image n (Kept weak words) (Kept mark values) survives read =
           let below : w < 8 = omega (arith, slice_get_within (list_from f (8 * n) 8) w (one.0 ∷ []) there, length-list_from f (8 * n) 8) in
           let same : Some (image.word (8 * n + w) ∷ []) ≡ Some (one.0 ∷ []) = sym (slice_get-list_from f (8 * n) 8 w below) ∙ there in
           let value : image.word (8 * n + w) ≡ one.0 = cc in
-          record { was = may_keep-in image.unit (image.word (8 * n + w)) history (subst (λ v. IsIn v history) (sym value) one.1); last = λ e. cc }),
+          let in_it : IsIn (image.word (8 * n + w)) history = subst (λ v. IsIn v history) (sym value) one.1 in
+          record { was = may_keep-in image.unit (image.word (8 * n + w)) history in_it; last = λ e. cc; whole = λ _. in_it }),
     )
 
 became : (R : Cell → Cell → Type 0) (old : Cell) (o : Option Cell) → Became R (Some old) o → (new : Cell) × (o ≡ Some new) × R old new

@@ -20,7 +20,7 @@ pub returns : goal.returns
 returns c = λ image geo script e mountable is first of_program.
     let right = mountable.right in
     let kept = kept_opened c.runs_keep_states.ensures.mounted image mountable.unit right in
-    let begins = begins_opened c.runs_keep_states.ensures.mounted image mountable.unit right mountable.right_form.whole mountable.bytes in
+    let begins = begins_opened c.runs_keep_states.ensures.mounted image mountable.unit right mountable.snapshot.whole mountable.bytes in
     let bytes = taken_bytes geo script e (c.what_was_made_durable_stays.ensures.scripts script) is in
     let bring = taken_bring geo script e (c.scripts_bring_right.ensures script) is in
     let h = begun (opened image) e in

@@ -56,7 +56,7 @@ returns-in_err-refused g c =
     let text = c.in_ok-text.ensures in
     let image = snapshot_of c.in_ok-image.image in
     let right = c.in_ok-host.ensures.mounts.right in
-    let mountable : AreMountable image = record { right_form = fetched.there.right; unit = fetched.there.taken; bytes = fetched.bytes; right = right } in
+    let mountable : AreMountable image = record { snapshot = fetched.there.right; unit = fetched.there.taken; bytes = fetched.bytes; right = right } in
     let opens = c.in_ok-host.ensures.opens in
     let x = c.in_ok-exploration.exploration in
     let asks = c.in_ok-exploration.ensures in
@@ -77,7 +77,7 @@ returns-in_err-show g c =
     let text = c.in_ok-text.ensures in
     let image = snapshot_of c.in_ok-image.image in
     let right = c.in_ok-host.ensures.mounts.right in
-    let mountable : AreMountable image = record { right_form = fetched.there.right; unit = fetched.there.taken; bytes = fetched.bytes; right = right } in
+    let mountable : AreMountable image = record { snapshot = fetched.there.right; unit = fetched.there.taken; bytes = fetched.bytes; right = right } in
     let opens = c.in_ok-host.ensures.opens in
     let x = c.in_ok-exploration.exploration in
     let asks = c.in_ok-exploration.ensures in
@@ -103,7 +103,7 @@ returns-in_err-missed g c =
     let text = c.in_ok-text.ensures in
     let image = snapshot_of c.in_ok-image.image in
     let right = c.in_ok-host.ensures.mounts.right in
-    let mountable : AreMountable image = record { right_form = fetched.there.right; unit = fetched.there.taken; bytes = fetched.bytes; right = right } in
+    let mountable : AreMountable image = record { snapshot = fetched.there.right; unit = fetched.there.taken; bytes = fetched.bytes; right = right } in
     let opens = c.in_ok-host.ensures.opens in
     let x = c.in_ok-exploration.exploration in
     let asks = c.in_ok-exploration.ensures in
@@ -127,7 +127,7 @@ returns g c =
     let text = c.in_ok-text.ensures in
     let image = snapshot_of c.in_ok-image.image in
     let right = c.in_ok-host.ensures.mounts.right in
-    let mountable : AreMountable image = record { right_form = fetched.there.right; unit = fetched.there.taken; bytes = fetched.bytes; right = right } in
+    let mountable : AreMountable image = record { snapshot = fetched.there.right; unit = fetched.there.taken; bytes = fetched.bytes; right = right } in
     let opens = c.in_ok-host.ensures.opens in
     let x = c.in_ok-exploration.exploration in
     let asks = c.in_ok-exploration.ensures in
