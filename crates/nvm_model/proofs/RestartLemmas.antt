@@ -8,7 +8,7 @@ use Rattle.line_device.specs.Panel.{Image}
 use Rattle.line_device.specs.Device.{Depicts}
 use Rattle.line_device.specs.declared.line.Choice.{Choice}
 use Rattle.line_device.specs.declared.line.Choice.TheVariants.{Lasts}
-use Rattle.line_device.proofs.HistoryLemmas.{word_write_back-refl, newest-word_write_back}
+use Rattle.line_device.proofs.HistoryLemmas.{is_in-word_write_back, word_write_back-refl, newest-word_write_back}
 use Rattle.line_device.proofs.TornLemmas.{may_keep-in, may_keep-latest, may_keep-part}
 use Rattle.nvm_model.specs.Numbered.{list_from}
 use Rattle.nvm_model.specs.Cell.{Cell, persist_cell, flush_cell, cell_byte, read_cell, touches, CellStands, KeepsCell, MaySurvive}
