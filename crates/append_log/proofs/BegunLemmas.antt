@@ -14,7 +14,7 @@ use Rattle.pm_volume.specs.Images.{EachReadsPages}
 use Rattle.pm_volume.specs.Object.{VolumeHolds, VolumeState}
 use Rattle.pm_volume.specs.Refusals.{volume_says}
 use Rattle.pm_volume.specs.declared.fault.VolumeFault.{VolumeFault}
-use Rattle.pm_volume.proofs.StoreLemmas.{reads-then}
+use Rattle.pm_volume.proofs.StandingLemmas.{each_pages-then}
 use Rattle.append_log.specs.declared.fault.LogFault.{LogFault}
 use Rattle.append_log.specs.declared.fault.LogFault.TheVariants.{Volume}
 use Rattle.pm_volume.specs.Left.{EachLeft, IsKeptLine, IsSoundLine}
@@ -74,7 +74,7 @@ module _ (s : LogState) (m : Medium) (bytes : List ℕ) (tested : IsTested s m b
       → ((pages : List Page) → VolumeHolds s.volume m pages → EachReadsPages s.volume.geo new (MayWrite (s.len + 1) line pages))
       → ((left : List Page) → LogStands left log → P left) → HoldsLog s m log → EachLeft 8 s.volume.geo new P
   record-images log new line P whole each next holds =
-      reads-then s.volume.geo new _ _
+      each_pages-then s.volume.geo new _ _
       (λ after may left leaves.
       next left
       (record-left (volume_line s.volume.geo) m holds.pages log holds.holds.stand holds.stands line whole after left

@@ -1,9 +1,8 @@
 -- What the volume's refusals say of a call on one line.
-use Rattle.std.proofs.Common.{◌≡◌, ℕ, ◌+◌, ◌*◌, ◌/◌, ◌%◌, ◌<◌, Bool, true, false, cond, Option, Some, None, option_map, Result, Ok, Err, IsTrue, OnOk, List, nat_lt, slice_get, refl, sym, ap, subst, ◌∙◌, arith}
+use Rattle.std.proofs.Common.{◌≡◌, ℕ, ◌+◌, ◌*◌, ◌/◌, ◌%◌, ◌<◌, Bool, true, false, cond, Option, Some, None, option_map, Result, Ok, Err, List, nat_lt, slice_get, refl, sym, ap, subst, ◌∙◌, arith}
 use Rattle.std.proofs.lemmas.Option.{get_or_from_slice_get, none-some}
 use Rattle.line_device.specs.Medium.{Medium}
-use Rattle.line_words.specs.Told.{Answers, Checks, OnRefused, OnWorked, Told, outcome_by, refusal_of}
-use Rattle.line_device.specs.Panel.{Panel, Runs}
+use Rattle.line_words.specs.Told.{Answers, Checks, OnRefused, Told, refusal_of}
 use Rattle.line_words.specs.Told.Told.{Refuses, Starves, Stops}
 use Rattle.nvm_model.specs.Blocks.{first_there}
 use Rattle.nvm_model.specs.Cell.{Cell, CellStands}
@@ -150,18 +149,3 @@ module _ (s : VolumeState) (pages : List Page) (n : ℕ) (within : n < 64 * s.ge
 pub never-refused : {T : Type 0} (P : Type 0) (r : Result T VolumeFault) → Answers volume_says None r → OnRefused volume_says r P
 never-refused P (Ok x) h = tt
 never-refused P (Err f) h = λ refused. absurd (refused h)
-
-pub worked-passed : {P Q : Type 0} (S T : Type 0) (f : VolumeFault) (r : Result T VolumeFault) → IsErrAnd r (λ g. g ≡ f) → (P → Q)
-    → OnWorked {T = S} volume_says (Err f) P → OnWorked volume_says r Q
-worked-passed S T f (Ok x) is next h = absurd is
-worked-passed S T f (Err g) is next h = λ stops. next (h (ap (λ e. refusal_of (volume_says e)) (sym is) ∙ stops))
-
-pub ok-then : {T P Q : Type 0} (r : Result T VolumeFault) → (P → Q) → OnOk r P → OnOk r Q
-ok-then (Ok x) next h = next h
-ok-then (Err f) next h = tt
-
--- the power stays on where a call went well
-pub power-stays : {T : Type 0} (r : Result T VolumeFault) (calls persists : ℕ) (old new : Panel) → Runs calls persists (outcome_by volume_says r) old new → IsTrue old.power
-    → OnOk r (IsTrue new.power)
-power-stays (Ok x) calls persists old new runs on = subst IsTrue (sym runs.cause.0) on
-power-stays (Err f) calls persists old new runs on = tt

@@ -7,7 +7,7 @@ use Rattle.word_tables.specs.Layout.{volume_line}
 use Rattle.nvm_model.specs.Page.{Page, cell_of, fill}
 use Rattle.pm_volume.specs.Images.{EachReadsPages}
 use Rattle.pm_volume.specs.Object.{VolumeHolds, VolumeServes, VolumeState}
-use Rattle.pm_volume.proofs.StoreLemmas.{reads-then}
+use Rattle.pm_volume.proofs.StandingLemmas.{each_pages-then}
 use Rattle.pm_volume.specs.Left.{EachLeft, IsDurable}
 use Rattle.append_log.specs.Lines.{entry_in, record_of}
 use Rattle.append_log.specs.Log.{HoldsLog, LogServes, LogStands, LogState}
@@ -59,7 +59,7 @@ module _ (s : LogState) (v : VolumeState) (m new : Medium) (bytes line : List �
     count-images last each =
         let held = is.held holds.pages holds.holds in
         subst (λ (g : Geometry). EachLeft 8 g last (λ left. LogStands left log ⊎ LogStands left (log ++ Some bytes ∷ []))) is.geo
-        (reads-then v.geo last _ _
+        (each_pages-then v.geo last _ _
         (λ after may left leaves.
         count-left (volume_line v.geo) new (recorded holds.pages) log held.stand stands bytes count whole small (omega (arith, counts, same)) (omega (arith, room holds.pages holds.holds, same))
         (count-strong holds.pages holds.holds) lasts entry after left may leaves)

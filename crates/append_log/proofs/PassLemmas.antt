@@ -47,11 +47,6 @@ pub never-stopped : (T P : Type 0) (r : Result T LogFault) → Answers log_says 
 never-stopped T P (Ok x) h = tt
 never-stopped T P (Err f) h = λ refused. absurd (refused h)
 
--- a call that the tests refused
-pub tested-refused : (S T : Type 0) (why : Option LogRefusal) (f : LogFault) (r : Result T LogFault) (P : Type 0) → IsErrAnd r (λ g. g ≡ f) → Answers {T = S} log_says why (Err f) → P → OnRefused log_says r P
-tested-refused S T why f (Ok x) P is h p = absurd is
-tested-refused S T why f (Err g) P is h p = λ _. p
-
 -- what a test that failed tells
 pub tested-result : (S T : Type 0) (why : Option LogRefusal) (f : LogFault) (r : Result T LogFault) → IsErrAnd r (λ g. g ≡ f) → Checks {T = S} log_says why (Err f) → Checks log_says why r
 tested-result S T why f (Ok x) is h = absurd is

@@ -1,5 +1,6 @@
 -- What callers see of a log, and of which records it is.
-use Rattle.std.specs.Prelude.{◌≡◌, ◌≤◌, ◌<◌, ◌*◌, ℕ, List, Option, Some, length}
+use Rattle.std.specs.Prelude.{◌≡◌, ◌≤◌, ◌<◌, ◌*◌, ℕ, IsTrue, List, Option, Some, length}
+use Rattle.line_device.specs.Device.{Device}
 use Rattle.line_device.specs.Medium.{Medium}
 use Rattle.nvm_model.specs.Page.{Page, cell_of}
 use Rattle.pm_volume.specs.Object.{VolumeState, VolumeHolds, VolumeServes}
@@ -27,3 +28,9 @@ pub record LogServes (s : LogState) (m : Medium) : Type 0 where
   pub volume : VolumeServes s.volume m
   pub counts : (pages : List Page) → VolumeHolds s.volume m pages → count_in (cell_of pages 0) ≡ Some s.len
   pub within : s.len < 64 * s.volume.geo.vpages
+
+-- The same of a device that is on, where nothing stopped the log's last call.
+pub record IsOpen (s : LogState) (d : Device) : Type 0 where
+  pub serves : LogServes s d.medium
+  pub settled : IsTrue s.volume.settled
+  pub on : IsTrue d.panel.power

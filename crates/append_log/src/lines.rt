@@ -1,13 +1,12 @@
 // Single lines of the volume: loaded, tested for their marks, and written durably.
-ghost use Rattle.std.specs.Prelude.{◌≡◌, ◌*◌, ◌<◌, IfOk, IsTrue, List, OnOk, Some, length, slice_index, ℕ};
+ghost use Rattle.std.specs.Prelude.{◌≡◌, ◌*◌, ◌<◌, IfOk, List, Some, length, slice_index, ℕ};
 ghost use Rattle.line_device.specs.Medium.{WritesBack};
-ghost use Rattle.line_words.specs.Told.{Answers, Checks, OnRefused, OnWorked, is_done, outcome_by};
+ghost use Rattle.line_words.specs.Told.{Answers, Checks, OnRefused, is_done, outcome_by};
 ghost use Rattle.nvm_model.specs.Page.{Page, cell_of};
-ghost use Rattle.page_lines.specs.Turns.{WritesBackOthers};
-ghost use Rattle.pm_volume.specs.Area.{IsOfVolume};
-ghost use Rattle.pm_volume.specs.Images.{EachReadsPages};
+ghost use Rattle.pm_volume.specs.Calls.{ChangesVolume, IsReady};
 ghost use Rattle.pm_volume.specs.Object.{VolumeHolds, VolumeServes};
 ghost use Rattle.pm_volume.specs.Refusals.{volume_says};
+ghost use Rattle.append_log.specs.Lines.{write_calls, write_persists};
 ghost use Rattle.append_log.specs.Refusals.{load_refusal, log_says, mark_refusal, write_refusal};
 ghost use Rattle.pm_volume.specs.Left.{IsSoundLine};
 ghost use Rattle.pm_volume.specs.Line.{MayWrite, line_in, written_line};
@@ -23,9 +22,7 @@ pub(crate) fn load_line<L: Lines>(
     dev: &mut L,
     line: u64,
 ) -> Result<[u8; 64], VolumeFault>
-    requires serves { VolumeServes volume.old (L.state dev.old).medium }
-    requires settled { IsTrue volume.old.settled }
-    requires on { IsTrue (L.state dev.old).panel.power }
+    requires ready { IsReady volume.old (L.state dev.old) }
     requires within { line < 64 * volume.old.geo.vpages }
     ensures refused { (pages : List Page) → VolumeHolds volume.old (L.state dev.old).medium pages
         → Answers volume_says (load_refusal line (cell_of pages line)) result }
@@ -69,22 +66,13 @@ pub(crate) fn write_line<L: Lines>(
     line: u64,
     bytes: &[u8],
 ) -> Result<(), VolumeFault>
-    requires serves { VolumeServes volume.old (L.state dev.old).medium }
-    requires settled { IsTrue volume.old.settled }
-    requires on { IsTrue (L.state dev.old).panel.power }
+    requires ready { IsReady volume.old (L.state dev.old) }
     requires within { line < 64 * volume.old.geo.vpages }
     requires whole { length bytes.now ≡ 64 }
     requires sound { (pages : List Page) → VolumeHolds volume.old (L.state dev.old).medium pages → IsSoundLine (cell_of pages line) }
     ensures refused { Answers volume_says (write_refusal volume.old (L.state dev.old).medium line) result }
-    ensures untouched { OnRefused volume_says result ((volume.new ≡ volume.old) × (dev.new ≡ dev.old)) }
-    ensures ok { OnOk result ((pages : List Page) → VolumeHolds volume.old (L.state dev.old).medium pages
-        → VolumeHolds volume.new (L.state dev.new).medium (written_line line bytes.now pages)) }
-    ensures images { OnWorked volume_says result ((pages : List Page) → VolumeHolds volume.old (L.state dev.old).medium pages
-        → EachReadsPages volume.old.geo (L.state dev.new).medium (MayWrite line bytes.now pages)) }
-    ensures outside { WritesBackOthers (IsOfVolume volume.old.geo) (L.state dev.old).medium (L.state dev.new).medium }
-    ensures serves { IsTrue volume.new.settled → VolumeServes volume.new (L.state dev.new).medium }
-    ensures object { (volume.new.geo ≡ volume.old.geo) × (volume.new.settled ≡ is_done (outcome_by volume_says result)) }
-    ensures on { OnOk result (IsTrue (L.state dev.new).panel.power) }
+    ensures changes { ChangesVolume L.state volume.old volume.new dev.old dev.new result (written_line line bytes.now) (MayWrite line bytes.now)
+        (write_calls volume.old.present line) (write_persists volume.old.present line) }
     ensures bytes { (k : ℕ) → slice_index bytes.now k < 256 }
 {
     let start = LINE * line;

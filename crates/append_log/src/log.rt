@@ -1,13 +1,14 @@
 ghost use Rattle.std.specs.Prelude.{◌≡◌, ◌⊎◌, ◌+◌, ◌*◌, ◌<◌, ◌≤◌, ◌∷◌, ◌++◌, [], ℕ, IfOk, IsTrue, List, None, OnOk, Option, Some, length, option_map, slice_get};
 ghost use Rattle.line_device.specs.Medium.{WritesBack};
 ghost use Rattle.line_words.specs.Told.{Answers, Checks, Finds, OnRefused, OnWorked, is_done, outcome_by};
-ghost use Rattle.nvm_model.specs.Page.{Page, cell_of};
+ghost use Rattle.nvm_model.specs.Page.{Page};
 ghost use Rattle.page_lines.specs.Turns.{WritesBackOthers};
 ghost use Rattle.pm_volume.specs.Area.{IsOfVolume};
-ghost use Rattle.pm_volume.specs.Object.{VolumeHolds, VolumeServes};
+ghost use Rattle.pm_volume.specs.Calls.{IsReady};
+ghost use Rattle.pm_volume.specs.Object.{VolumeHolds};
 ghost use Rattle.append_log.specs.Lines.{log_of};
 ghost use Rattle.pm_volume.specs.Left.{EachLeft};
-ghost use Rattle.append_log.specs.Log.{HoldsLog, LogServes, LogStands};
+ghost use Rattle.append_log.specs.Log.{HoldsLog, IsOpen, LogServes, LogStands};
 ghost use Rattle.append_log.specs.Refusals.{append_refusal, check_refusal, get_refusal, log_says, open_refusal};
 
 use crate::LogFault;
@@ -36,9 +37,7 @@ impl Model for AppendLog {
 impl AppendLog {
     /// The log of a volume. One whose line 0 is bad, or has a count that is too high, is none.
     pub fn open<L: Lines>(mut volume: Volume, dev: &mut L) -> Result<Self, LogFault>
-        requires serves { VolumeServes volume (L.state dev.old).medium }
-        requires settled { IsTrue volume.settled }
-        requires on { IsTrue (L.state dev.old).panel.power }
+        requires ready { IsReady volume (L.state dev.old) }
         ensures refused { (pages : List Page) → VolumeHolds volume (L.state dev.old).medium pages
             → Finds log_says (open_refusal pages) result }
         ensures ok { IfOk result (λ log. (pages : List Page) → VolumeHolds volume (L.state dev.old).medium pages
@@ -71,9 +70,7 @@ impl AppendLog {
 
     /// The record of a number, from 0.
     pub fn get<L: Lines>(&mut self, dev: &mut L, index: u64) -> Result<Record, LogFault>
-        requires serves { LogServes self.old (L.state dev.old).medium }
-        requires settled { IsTrue self.old.volume.settled }
-        requires on { IsTrue (L.state dev.old).panel.power }
+        requires open { IsOpen self.old (L.state dev.old) }
         ensures refused { (pages : List Page) → VolumeHolds self.old.volume (L.state dev.old).medium pages
             → Finds log_says (get_refusal self.old pages index) result }
         ensures ok { IfOk result (λ found. (log : List (Option (List ℕ))) → HoldsLog self.old (L.state dev.old).medium log
@@ -94,9 +91,7 @@ impl AppendLog {
 
     /// Appends a record. At Ok it is durable. However the call ends, a restart finds the log as it was or with this record.
     pub fn append<L: Lines>(&mut self, dev: &mut L, record: &[u8]) -> Result<(), LogFault>
-        requires serves { LogServes self.old (L.state dev.old).medium }
-        requires settled { IsTrue self.old.volume.settled }
-        requires on { IsTrue (L.state dev.old).panel.power }
+        requires open { IsOpen self.old (L.state dev.old) }
         ensures refused { (pages : List Page) → VolumeHolds self.old.volume (L.state dev.old).medium pages
             → Answers log_says (append_refusal self.old (L.state dev.old).medium pages (length record.now)) result }
         ensures untouched { OnRefused log_says result ((self.new ≡ self.old) × (dev.new ≡ dev.old)) }

@@ -1,5 +1,5 @@
 // The bytes of lines: a count of records, or one of these.
-ghost use Rattle.std.specs.Prelude.{◌≡◌, ◌≤◌, ◌<◌, ◌^◌, ℕ, Some, length, option_map, slice_index};
+ghost use Rattle.std.specs.Prelude.{◌≡◌, ◌≤◌, ◌<◌, Some, length, option_map};
 ghost use Rattle.line_device.specs.Word.{word_at};
 ghost use Rattle.append_log.specs.Lines.{record_of};
 

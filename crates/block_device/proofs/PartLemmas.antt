@@ -1,19 +1,12 @@
 -- Blocks that are given to some numbers, one after the other.
-use Rattle.std.proofs.Common.{◌≡◌, ◌⊎◌, inl, inr, ℕ, zero, suc, true, false, ◌||◌, ◌+◌, ◌<◌, ◌≤◌, List, [], ◌∷◌, if◌then◌else◌, get_or, refl, sym, ◌∙◌, ap, ap₂, subst, arith}
+use Rattle.std.proofs.Common.{◌≡◌, ◌⊎◌, inl, inr, ℕ, zero, suc, true, false, ◌||◌, ◌+◌, ◌≤◌, List, [], ◌∷◌, if◌then◌else◌, get_or, refl, sym, ◌∙◌, ap, ap₂, arith}
 use Rattle.std.proofs.lemmas.Bool.{cases_Bool}
 use Rattle.std.proofs.lemmas.Bool.Decides.{nat_tests}
-use Rattle.line_device.specs.Medium.{Medium}
-use Rattle.line_words.specs.Words.{WritesBackBeside}
-use Rattle.line_words.proofs.BesideLemmas.{beside-refl, beside-trans}
 use Rattle.nvm_model.specs.Numbered.{is_among, map_from}
 use Rattle.nvm_model.specs.Storage.{Block}
 use Rattle.nvm_model.specs.Storage.Block.{Absent}
 use Rattle.nvm_model.specs.Blocks.{IsMixed, change, change_block}
 use Rattle.nvm_model.proofs.NumberedLemmas.{length-map_from}
-use Rattle.block_device.specs.Area.{IsBlockLine}
-use Rattle.block_device.specs.Object.{BlocksState, BlocksServe, HasGoodMetadata, blocks_of}
-use Rattle.block_device.specs.Images.{EachReads, IsEither}
-use Rattle.block_device.proofs.ImageLemmas.{each_reads-then, served_reads}
 
 -- so many numbers from one on get the block of their number
 abbrev pub given_block : (ℕ → Block) → ℕ → ℕ → ℕ → Block → Block
@@ -88,62 +81,6 @@ change-given start len to blocks =
     alone : (b : _) → (b || false) ≡ b
     alone true = refl
     alone false = refl
-
--- So many of the blocks have theirs, and nothing else changed.
-pub record IsPart (to : ℕ → Block) (at k : ℕ) (s now : BlocksState) (m m' : Medium) : Type 0 where
-  pub blocks : blocks_of now m' ≡ given to at k (blocks_of s m)
-  pub outside : WritesBackBeside (IsBlockLine s.geo) m m'
-  pub serves : BlocksServe now m'
-  pub geo : now.geo ≡ s.geo
-  pub settled : now.settled ≡ true
-
-pub part_first : (to : ℕ → Block) (at : ℕ) (s : BlocksState) (m : Medium) → BlocksServe s m → s.settled ≡ true → IsPart to at 0 s s m m
-part_first to at s m serves settled = record {
-  blocks = sym (given-none to at (blocks_of s m));
-  outside = beside-refl (IsBlockLine s.geo) m;
-  serves = serves;
-  geo = refl;
-  settled = settled;
-}
-
-module _ (to : ℕ → Block) (at k all : ℕ) (s now : BlocksState) (m m' : Medium) (good : HasGoodMetadata s.geo m) (p : IsPart to at k s now m m') where
-  pub part_good : HasGoodMetadata now.geo m'
-  part_good = subst (λ g. HasGoodMetadata g m') (sym p.geo) (λ n below. p.outside.stays_good n (good n below))
-
-  pub part_outside : (m'' : Medium) → WritesBackBeside (IsBlockLine now.geo) m' m'' → WritesBackBeside (IsBlockLine s.geo) m m''
-  part_outside m'' outside = beside-trans (IsBlockLine s.geo) m m' m'' p.outside (subst (λ g. WritesBackBeside (IsBlockLine g) m' m'') p.geo outside)
-
-  pub part_next : (then_ : BlocksState) (m'' : Medium) → blocks_of then_ m'' ≡ given to (at + k) 1 (blocks_of now m') → WritesBackBeside (IsBlockLine now.geo) m' m'' → BlocksServe then_ m'' → then_.geo ≡ now.geo → then_.settled ≡ true → IsPart to at (k + 1) s then_ m m''
-  part_next then_ m'' step outside serves geo settled = record {
-    blocks = step ∙ ap (given to (at + k) 1) p.blocks ∙ given-next to at k (blocks_of s m);
-    outside = part_outside m'' outside;
-    serves = serves;
-    geo = geo ∙ p.geo;
-    settled = settled;
-  }
-
-  -- wherever the power goes meanwhile, each block is as before or as in the end
-  pub part_images : (m'' : Medium) → k < all → EachReads now.geo m'' (IsEither (blocks_of now m') (given to (at + k) 1 (blocks_of now m'))) → EachReads s.geo m'' (IsMixed (blocks_of s m) (given to at all (blocks_of s m)))
-  part_images m'' more each =
-      let mixed = IsMixed (blocks_of s m) (given to at all (blocks_of s m)) in
-      subst (λ g. EachReads g m'' mixed) p.geo
-      (each_reads-then now.geo m'' (IsEither (blocks_of now m') (given to (at + k) 1 (blocks_of now m'))) mixed
-      (λ bs either. elim either as (λ _. mixed bs) [
-        | inl was ↦ subst mixed (sym (was ∙ p.blocks)) (given-mixed to at k all (blocks_of s m) (omega arith))
-        | inr is ↦ subst mixed (sym (is ∙ ap (given to (at + k) 1) p.blocks ∙ given-next to at k (blocks_of s m))) (given-mixed to at (k + 1) all (blocks_of s m) (omega arith))
-      ])
-      each)
-
-  -- and in between
-  pub part_rest : k ≤ all → EachReads s.geo m' (IsMixed (blocks_of s m) (given to at all (blocks_of s m)))
-  part_rest few =
-      let mixed = IsMixed (blocks_of s m) (given to at all (blocks_of s m)) in
-      subst (λ g. EachReads g m' mixed) p.geo
-      (each_reads-then now.geo m' (λ bs. bs ≡ blocks_of now m') mixed (λ bs e. subst mixed (sym (e ∙ p.blocks)) (given-mixed to at k all (blocks_of s m) few)) (served_reads now m' part_good p.serves))
-
--- a block of a span, by its number in it
-pub part_along : (to : ℕ → Block) (at k k' : ℕ) (s now : BlocksState) (m m' : Medium) → k ≡ k' → IsPart to at k s now m m' → IsPart to at k' s now m m'
-part_along to at k k' s now m m' same p = subst (λ n. IsPart to at n s now m m') same p
 
 pub change-step : (at k block : ℕ) (to : Block) (blocks : List Block) → block ≡ at + k → change (record { start = block; len = 1 } ∷ []) to blocks ≡ given (λ _. to) (at + k) 1 blocks
 change-step at k block to blocks same = change-given block 1 to blocks ∙ ap (λ n. given (λ _. to) n 1 blocks) same

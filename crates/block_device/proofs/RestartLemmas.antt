@@ -19,7 +19,7 @@ use Rattle.block_device.specs.Images.{IsBlockImage, EachReads}
 use Rattle.block_device.proofs.PlaceLemmas.{data_on_device}
 use Rattle.block_device.proofs.FrameLemmas.{each_reads-kept, blocks_read-marks}
 
-is_only-one : (v : ℕ) (history : List ℕ) → history ≡ v ∷ [] → IsOnly (newest history) history
+pub is_only-one : (v : ℕ) (history : List ℕ) → history ≡ v ∷ [] → IsOnly (newest history) history
 is_only-one v history one w at = is_in-one w v (subst (IsIn w) one at) ∙ sym (ap newest one)
 
 pub is_only-none : (v : ℕ) (history : List ℕ) → history ≡ [] → IsOnly v history

@@ -11,12 +11,11 @@ use crate::BlockFault;
 use crate::area::MOST_TOGETHER;
 use line_device::Lines;
 use line_words::first_bad;
-use nvm_base::{BLOCK, LineNo, Span};
+use nvm_base::{BLOCK, LineNo, MOST_SPANS, Span};
 use range_sets::{first_overlap, total_of};
 use word_tables::Geometry;
 
 /// Most spans of blocks that change together.
-const MOST_SPANS: usize = 8;
 
 /// Whether a number of bytes are whole blocks from that one on.
 pub fn check_bytes(count: u64, block: u64, len: u64) -> Result<(), BlockFault>

@@ -4,15 +4,13 @@ use Rattle.std.proofs.lemmas.List.{map-append}
 use Rattle.nvm_base.specs.declared.files.Kind.{Kind}
 use Rattle.nvm_base.specs.declared.units.Span.{Span}
 use Rattle.nvm_model.specs.Blocks.{first_there}
-use Rattle.nvm_model.specs.Cell.{Cell}
 use Rattle.nvm_model.specs.Listing.{file_name, file_of, has_file}
 use Rattle.nvm_model.specs.Mappings.{change_copy, has_handle, is_shared, mapping_of, new_mapping, without_mapping}
 use Rattle.nvm_model.specs.Page.{cell_of}
 use Rattle.nvm_model.specs.Storage.{File, Mapping}
 use Rattle.mappings.specs.declared.info.MapInfo.{MapInfo}
 use Rattle.mappings.specs.Object.{MappingsState, info_of}
-use Rattle.marked_lines.specs.Refusals.{cell_refusal, file_clear_refusal, file_refusal, line_refusal}
-use Rattle.marked_lines.specs.Refusals.ScrubRefusal.{Range}
+use Rattle.marked_lines.specs.Refusals.{file_clear_refusal, file_refusal}
 use Rattle.reply_text.specs.declared.reply.Why.TheVariants as because
 use Rattle.reply_text.specs.Answer.Answer.{Done, Handle, Refused}
 use Rattle.script_text.specs.Action.{Action}
@@ -29,7 +27,7 @@ use Rattle.sights.specs.MachineModel.OnMappings.{if_full_of_mappings, load_throu
 use Rattle.sights.specs.MachineModel.OnMedia.{line_answer}
 use Rattle.sights.specs.MachineModel.OnPages.{fread, fwrite, pages_named}
 use Rattle.sights.specs.Outcomes.Stops.{led_to}
-use Rattle.sights.proofs.VolumeChangeLemmas.{none_first, none_mapped, none_second, places_right}
+use Rattle.sights.proofs.VolumeChangeLemmas.{bad_found, line_found as cell_found, none_first, none_mapped, none_second, places_right}
 use Rattle.cut_places.specs.FileChanges.{FilesChange, LinesChange, files_changed}
 use Rattle.cut_places.specs.FileChanges.FilesChange.{Nothing, Makes, Removes, Renames, Resizes, Changes, Maps, Unmaps}
 use Rattle.cut_places.specs.FileChanges.LinesChange.{Puts, Persists, Rewrites, Zeroes, Loses, Weakens, Clears}
@@ -95,17 +93,6 @@ no_such_file name files none = by_test (has_file file_name name files) none
     by_test : (b : Bool) → cond b (Some (Refused because.Exists)) None ≡ None → b ≡ false
     by_test true is = cc is
     by_test false is = refl
-
--- a line that is marked is there
-cell_found : (past : Bool) (o : Option Cell) → cond past (Some Range) (cell_refusal o) ≡ None → (cell : Cell) × (o ≡ Some cell)
-cell_found true o is = cc is
-cell_found false None is = cc is
-cell_found false (Some cell) is = (cell, refl)
-
-bad_found : (past : Bool) (o : Option Cell) → cond past (Some Range) (line_refusal o) ≡ None → (cell : Cell) × (o ≡ Some cell)
-bad_found true o is = cc is
-bad_found false None is = cc is
-bad_found false (Some cell) is = (cell, refl)
 
 module _ (h : Machine) (small : h.next_handle ≤ 2 ^ 32) where
   kept : (to : Machine) → to.files ≡ h.files → to.mappings ≡ h.mappings → to.next_handle ≡ h.next_handle → Follows h to Nothing

@@ -9,10 +9,10 @@ use Rattle.line_device.specs.Word.{word_at}
 use Rattle.nvm_model.specs.Cell.{Cell, cell_byte, clear_cell, flush_cell, lose_cell, weaken_cell, zero_cell}
 use Rattle.nvm_model.specs.Cell.Cell.{Kept}
 use Rattle.nvm_model.specs.Numbered.{list_from}
-use Rattle.nvm_model.specs.Page.{Page, byte_in, cell_of, change_line}
+use Rattle.nvm_model.specs.Page.{Page, byte_in, cell_of}
 use Rattle.nvm_model.specs.Page.Page.{Absent}
 use Rattle.nvm_model.specs.Touched.{persist_spans, persist_touched, touches_any}
-use Rattle.nvm_model.proofs.NumberedLemmas.{length-map_from, list_from-same}
+use Rattle.nvm_model.proofs.NumberedLemmas.{list_from-same}
 use Rattle.nvm_model.proofs.PageLemmas.{length-discard, length-put_fill}
 use Rattle.nvm_model.proofs.ResizeLemmas.{replicate-item, resized-item, resized-kept}
 use Rattle.nvm_model.proofs.SeveralLemmas.{cell_of-spans, length-spans}
@@ -24,6 +24,7 @@ use Rattle.sights.specs.Seeing.{or_zeros, seen}
 use Rattle.sights.proofs.SeenLemmas.{among_pages, seen-change, seen-discard, seen-put}
 use Rattle.cut_places.specs.FileChanges.{LinesChange, line_changed, pages_changed}
 use Rattle.cut_places.specs.FileChanges.LinesChange.{Puts, Persists, Rewrites, Zeroes, Loses, Weakens, Clears}
+use Rattle.nvm_model.proofs.MediaLemmas.{length-change as length-change_line}
 
 -- a line that is marked is there
 abbrev pub IsThere : List Page → ℕ → Type 0
@@ -109,10 +110,6 @@ seen_changed (Zeroes page count) pages n whole there lt = seen-discard page coun
 seen_changed (Loses line) pages n whole there lt = seen-change lose_cell line pages n there.0 there.1
 seen_changed (Weakens line) pages n whole there lt = seen-change weaken_cell line pages n there.0 there.1
 seen_changed (Clears line) pages n whole there lt = seen-change clear_cell line pages n there.0 there.1
-
-length-change_line : (f : Cell → Cell) (n : ℕ) (pages : List Page) → length (change_line f n pages) ≡ length pages
-unfolding change_line
-length-change_line f n pages = length-map_from _ 0 pages
 
 pub length_changed : (c : LinesChange) (pages : List Page) → length (pages_changed c pages) ≡ length pages
 length_changed (Puts at bytes) pages = length-put_fill at (length bytes) bytes pages

@@ -7,12 +7,9 @@ ghost use Rattle.cut_places.specs.FilesState.{line_after, line_of_after, line_wi
 use crate::change::LinesChange;
 use crate::rewriting::{rewritten, touches_any, touches_any_page};
 use line_histories::HeldLine;
-use nvm_base::{LINE, PAGE};
+use nvm_base::PAGE_LINES;
 use sights::is_among;
 use std::alloc::{AllocError, Global};
-
-/// Lines of a page.
-const PAGE_LINES: u64 = PAGE / LINE;
 
 /// The line of that number, with each value that its words may have.
 #[derive(Drop)]

@@ -1,5 +1,5 @@
 -- A byte of a line of the volume that each value of its word has.
-use Rattle.std.proofs.Common.{◌≡◌, ◌⊎◌, ◌^◌, zero, suc, inl, inr, ℕ, ◌+◌, ◌*◌, ◌/◌, ◌%◌, ◌<◌, Bool, true, false, cond, Option, Some, None, option_map, List, [], ◌∷◌, length, map, get_or, slice_get, slice_index_or, replicate, refl, sym, ap, subst, ◌∙◌, arith}
+use Rattle.std.proofs.Common.{◌≡◌, ◌⊎◌, inl, inr, ℕ, ◌+◌, ◌*◌, ◌/◌, ◌%◌, ◌<◌, Bool, true, false, cond, Option, Some, None, option_map, List, [], ◌∷◌, length, map, get_or, slice_get, slice_index_or, replicate, refl, sym, ap, subst, ◌∙◌, arith}
 use Rattle.std.proofs.lemmas.Bool.Decides.{nat_tests}
 use Rattle.std.proofs.lemmas.Option.{slice_get-get_or, slice_get-map, get_or_from_slice_get}
 use Rattle.std.specs.Int.{byte_at}
@@ -18,22 +18,12 @@ use Rattle.durable.specs.Place.{is_weak_line, line_has}
 use Rattle.std.proofs.lemmas.Bool.{both_ways}
 use Rattle.durable.specs.Durable.{IsLineThere}
 use Rattle.std.proofs.lemmas.List.{get_or-replicate}
-use native.Mathlib.Nat.{zero-div}
 use Rattle.durable.proofs.WordLemmas.{WordKeeps, word_keeps-flushed, word_keeps-latest, word_keeps-one, word_keeps-stored}
-
--- a line of zeros has no other byte
-pub byte_at-zero : (k : ℕ) → byte_at k 0 ≡ 0
-byte_at-zero zero = refl
-byte_at-zero (suc k) = ap (λ n. n % 256) (zero-div (256 ^ suc k))
+use Rattle.pm_volume.proofs.LineLemmas.{get-latest as get_or-latest}
+pub use Rattle.pm_volume.proofs.LineLemmas.{byte_at-zero}
 
 pub zero_shown : (i : ℕ) → i < 64 → line_has (Some zero_cell) i ≡ Some 0
 zero_shown i lt = ap (λ h. Some (byte_at (i % 8) (newest h))) (get_or-replicate 8 (i / 8) (0 ∷ []) [] (omega arith)) ∙ ap Some (byte_at-zero (i % 8))
-
--- a line that was made durable shows what it had, unless it is lost
-get_or-latest : (words : List (List ℕ)) (w : ℕ) → slice_index_or (map latest words) w [] ≡ latest (slice_index_or words w [])
-get_or-latest [] w = refl
-get_or-latest (h ∷ words) zero = refl
-get_or-latest (h ∷ words) (suc w) = get_or-latest words w
 
 pub flush_shown : (cell : Cell) (k : ℕ) → is_bad_cell (Some cell) ≡ false → is_weak_line (Some cell) ≡ false → line_has (Some (flush_cell cell)) k ≡ Some (cell_byte cell k)
 flush_shown Bad k good strong = cc good

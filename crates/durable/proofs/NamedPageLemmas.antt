@@ -17,7 +17,7 @@ use Rattle.file_journal.specs.Standing.{KeepsFile, KeepsFiles, file_read, files_
 use Rattle.machine_model.specs.OnPages.{pages_named}
 
 -- the pages of a file, none where there is none
-abbrev pages_in : Option File → List Page
+abbrev pub pages_in : Option File → List Page
 pages_in o = elim o [ None ↦ [] | Some file ↦ file.pages ]
 
 -- a file of another name before others

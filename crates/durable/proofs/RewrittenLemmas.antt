@@ -1,5 +1,5 @@
 -- Pages that are written as a whole, or made holes: their lines and bytes, and which are there.
-use Rattle.std.proofs.Common.{◌≡◌, ℕ, zero, suc, ◌+◌, ◌-◌, ◌*◌, ◌/◌, ◌%◌, ◌<◌, Bool, true, false, cond, Option, Some, None, option_map, List, [], ◌∷◌, drop, get_or, length, slice_get, slice_index_or, inl, inr, refl, sym, ap, subst, ◌∙◌, arith}
+use Rattle.std.proofs.Common.{◌≡◌, ℕ, ◌+◌, ◌-◌, ◌*◌, ◌/◌, ◌%◌, ◌<◌, Bool, true, false, cond, Option, Some, None, option_map, List, [], ◌∷◌, drop, get_or, length, slice_get, slice_index_or, inl, inr, refl, sym, ap, subst, ◌∙◌, arith}
 use Rattle.std.specs.Prelude.{slice_index}
 use Rattle.std.specs.Int.{byte_at}
 use Rattle.std.proofs.lemmas.Bool.{cases_lt}
@@ -24,14 +24,11 @@ use Rattle.durable.specs.Durable.{HaveLines, IsLineThere}
 use Rattle.durable.proofs.BadLineLemmas.{NoWorse, PagesNoWorse, changed_no_worse}
 use Rattle.durable.proofs.PresenceLemmas.{line_in}
 use Rattle.durable.proofs.ThereLemmas.{by_pages}
+pub use Rattle.nvm_model.proofs.PutLemmas.{byte_at-small}
 
 -- a byte of such a page
 abbrev pub byte_rewritten : List Span → List ℕ → List Page → ℕ → ℕ
 byte_rewritten ranges bytes pages at = byte_laid ranges bytes at (byte_in pages at)
-
-pub byte_at-small : (k n : ℕ) → byte_at k n < 256
-byte_at-small zero n = omega arith
-byte_at-small (suc k) n = omega arith
 
 cell-small : (o : Option Cell) (k : ℕ) → elim o [ None ↦ 0 | Some cell ↦ cell_byte cell k ] < 256
 cell-small None k = omega arith

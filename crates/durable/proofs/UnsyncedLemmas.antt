@@ -90,7 +90,7 @@ before_kept place image there at bytes good n cell is = by_line (cell_of (read_p
 abbrev again : Image → Start
 again image = record { choice = Firsts; image = image }
 
-abbrev off : Machine → Machine
+abbrev pub off : Machine → Machine
 off h = record h { mode = Off; cut_armed = false; fail_armed = false }
 
 abbrev held : Geometry → Image → Machine

@@ -10,7 +10,6 @@ use Rattle.nvm_model.specs.Blocks.{first_there}
 use Rattle.nvm_model.specs.Files.{entry_of_file, new_file, with_name, with_pages}
 use Rattle.nvm_model.specs.Listing.{change_file, file_name, file_of, has_file, is_named, put_file, rename_file, without_file}
 use Rattle.nvm_model.specs.Mappings.{change_copy, has_handle, is_mapped, mapping_of, new_mapping, overwritten, without_mapping}
-use Rattle.nvm_model.specs.Page.{Page}
 use Rattle.nvm_model.specs.Storage.{File, Mapping}
 use Rattle.reply_text.specs.declared.reply.Why.TheVariants as because
 use Rattle.reply_text.specs.Answer.{Answer}
@@ -32,12 +31,8 @@ use Rattle.durable.specs.Mapped.{AreWithin}
 use Rattle.durable.proofs.EntryLemmas.{entries_made, synced_entries}
 use Rattle.durable.proofs.HandleLemmas.{of_flush, of_load, of_map, of_store}
 use Rattle.durable.proofs.MappedLemmas.{read-unmapped, recovered-unmapped}
-use Rattle.durable.proofs.NamedPageLemmas.{named-change, named-put, named-rename, named-without}
+use Rattle.durable.proofs.NamedPageLemmas.{named-change, named-put, named-rename, named-without, pages_in}
 use Rattle.durable.proofs.RefusalLemmas.{first_none, named_none, places_none}
-
--- the pages of a file that may be there
-abbrev pages_in : Option File → List Page
-pages_in o = elim o [ None ↦ [] | Some file ↦ file.pages ]
 
 -- how many pages a listed file has
 count_of : List ℕ → List FileEntry → ℕ

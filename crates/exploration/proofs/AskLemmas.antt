@@ -30,10 +30,7 @@ use Rattle.exploration.specs.Reads.{seen_by, seen_of}
 use Rattle.asked_reads.specs.Looking.{read_action}
 use Rattle.exploration.specs.Replies.{block_reply, volume_reply}
 use Rattle.exploration.proofs.LookLemmas.{ok_and}
-
--- the answers that replies ask for
-abbrev pub answers : List (Option AskedReply) → List (Option Answer)
-answers replies = map (option_map answer_asked) replies
+use Rattle.questions.proofs.AskLemmas.{answers}
 
 -- the commands that reads are
 abbrev pub commands : List Read → List Action

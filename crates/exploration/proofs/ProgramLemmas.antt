@@ -16,6 +16,7 @@ use Rattle.exploration.specs.Lines.ProgramLine.{Begins, Does, Refuses}
 use Rattle.exploration.specs.Program.{has_begin, marks_from, refused_from}
 use Rattle.exploration.specs.Steps.{AreCommands, IsProgramHeld}
 use Rattle.exploration.proofs.LineLemmas.{first-some, first-begun, first-more, marks-more, program-begun, program-length, program-more, refused-more}
+pub use Rattle.script_text.proofs.WordLemmas.{passes as not_false}
 
 -- what stands in a program is a command of programs
 plain-program : (action of : Action) (taken : Bool) → is_of_program of ≡ taken → (if taken then Ok (Does (Some of)) else Err NotInAProgram) ≡ Ok (Does (Some action)) → is_of_program action ≡ true
@@ -139,7 +140,3 @@ held-begun lines held is = ap (λ n. n == 0) (sym (length-map held.first.items (
 pub not_true : (b : Bool) → not b ≡ true → b ≡ false
 not_true true e = absurd (cc)
 not_true false e = refl
-
-pub not_false : (b : Bool) → not b ≡ false → b ≡ true
-not_false true e = refl
-not_false false e = absurd (cc)

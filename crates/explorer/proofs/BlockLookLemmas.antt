@@ -66,11 +66,11 @@ none_past blocks b lt =
     let past : nat_lt blocks (b + 1) ≡ false = le-ltb blocks (b + 1) (omega (arith, lt)) in
     ap (λ t. first_there (if t then Some because.Range else None) None) past
 
-stop_came : (by : Interruption) → came_of (interrupted_answer by) ≡ Stopped
+pub stop_came : (by : Interruption) → came_of (interrupted_answer by) ≡ Stopped
 stop_came Failed = refl
 stop_came Lost = refl
 
-same_answer : (a b : Answer) → a ∷ [] ≡ b ∷ [] → a ≡ b
+pub same_answer : (a b : Answer) → a ∷ [] ≡ b ∷ [] → a ≡ b
 same_answer a b is = cc is
 
 -- What a read of block b was answered, in h: its bytes, or what keeps it from being read; or the device stopped it.

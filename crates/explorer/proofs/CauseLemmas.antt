@@ -1,7 +1,6 @@
 -- The counts that rise where the device stops an exploration, and fall nowhere.
 use Rattle.std.proofs.Common.{◌≡◌, ◌≢◌, ◌≤◌, ◌⊎◌, inl, inr, ℕ, None, Result, Ok, Err, [], ◌∷◌, IsTrue, refl, sym, ap, subst, ◌∙◌, arith}
 use Rattle.std.specs.Result.{IfErr, IsErrAnd, OnOk}
-use Rattle.nvm_base.specs.Counts.{Rose}
 use Rattle.line_device.specs.Device.{Device}
 use Rattle.line_device.specs.Panel.{Panel}
 use Rattle.line_words.specs.declared.interruption.Interruption.{Interruption}
@@ -25,10 +24,7 @@ use Rattle.explorer.specs.Coming.{came_of}
 use Rattle.explorer.specs.Stopping.{DeviceStopped, NoneFell}
 use Rattle.explorer.proofs.ComesLemmas.{CameTo, came_to, done, refused, stopped, was_stopped}
 use Rattle.explorer.proofs.PerformLemmas.{cut_in_allowed}
-
--- what rose above a later count rose above the earlier one
-rose_later : (a b c : ℕ) → a ≤ b → Rose b c → Rose a c
-rose_later a b c later rose = omega arith
+use Rattle.line_device.proofs.PanelLemmas.{rose_later}
 
 -- of two calls, one after the other
 module _ (a b c : Panel) (before : NoneFell a b) where

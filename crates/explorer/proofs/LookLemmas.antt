@@ -10,8 +10,6 @@ use Rattle.line_device.specs.Device.{Device}
 use Rattle.line_device.specs.History.{newest}
 use Rattle.line_device.specs.Medium.{Medium, IsSound}
 use Rattle.line_device.specs.Word.{word_at, word_from}
-use Rattle.line_words.specs.declared.interruption.Interruption.{Interruption}
-use Rattle.line_words.specs.declared.interruption.Interruption.TheVariants.{Failed, PowerLost as Lost}
 use Rattle.line_words.proofs.PositionLemmas.{none_found, one_found}
 use Rattle.word_tables.specs.Layout.{volume_line}
 use Rattle.nvm_model.specs.Blocks.{first_there}
@@ -32,7 +30,6 @@ use Rattle.cut_places.specs.MachineModel.declared.needs.Needs.TheVariants.{Usabl
 use Rattle.cut_places.specs.MachineModel.Machine.{Machine, Fate}
 use Rattle.cut_places.specs.MachineModel.Machine.Fate.{Gives, Works, Orders, Cuts, Restarts, Recovers}
 use Rattle.cut_places.specs.MachineModel.Commands.{fate, meaning, refusal, unless_refused, while_interrupted}
-use Rattle.cut_places.specs.MachineModel.Interrupted.{interrupted_answer}
 use Rattle.cut_places.specs.MachineModel.Meaning.{mode_refusal, most_refusal}
 use Rattle.cut_places.specs.MachineModel.OnVolume.{volume_answer, yes_or_no}
 use Rattle.cut_places.specs.MachineModel.Run.{Ends, Takes, Transcript}
@@ -44,7 +41,7 @@ use Rattle.cut_places.specs.Outcomes.Pages.{PageRead, all_lines_read, lines_read
 use Rattle.cut_places.specs.Outcomes.Stops.{is_of_program}
 use Rattle.cut_places.specs.AskedReads.declared.reads.PageRead.{PageRead as AskedPages}
 use Rattle.cut_places.specs.AskedReads.Reads.{page_read, page_reply, pages_asked}
-use Rattle.explorer.specs.declared.came.Came.TheVariants.{Done, Stopped}
+use Rattle.explorer.specs.declared.came.Came.TheVariants.{Done}
 use Rattle.cut_places.specs.SightsSeen.declared.line_seen.LineSeen.{LineSeen}
 use Rattle.explorer.specs.Coming.{came_of}
 use Rattle.nvm_model.specs.Events.{is_weak_cell}
@@ -53,6 +50,7 @@ use Rattle.explorer.specs.Starting.{AreDurable, AreOfBytes, Begins}
 use Rattle.cut_places.specs.SightsSeen.Units.{AreLines, line_numbers}
 use Rattle.explorer.proofs.ComesLemmas.{came_to, was_done, was_refused}
 use Rattle.cut_places.proofs.SightsSeen.VolumeChangeLemmas.{none_second}
+use Rattle.explorer.proofs.BlockLookLemmas.{same_answer, stop_came}
 
 -- it was answered as what comes of it is
 abbrev pub GaveIt : Fate → Answer → Machine → Type 0
@@ -62,13 +60,6 @@ GaveIt (Orders order to) answer next = Unit {0}
 GaveIt (Cuts to) answer next = Unit {0}
 GaveIt (Restarts choice) answer next = Unit {0}
 GaveIt Recovers answer next = Unit {0}
-
-same_answer : (a b : Answer) → a ∷ [] ≡ b ∷ [] → a ≡ b
-same_answer a b is = cc is
-
-stop_came : (by : Interruption) → came_of (interrupted_answer by) ≡ Stopped
-stop_came Failed = refl
-stop_came Lost = refl
 
 pub told_done : (host : HostState) (h : Machine) (action : Action) (answer : Answer) (old new : Device) → IsTrue (is_of_program action)
     → (comes : Comes h action (fate h action) answer host old new) → came_of answer ≡ Done

@@ -2,7 +2,6 @@
 use Rattle.std.proofs.Common.{◌≡◌, inl, inr, ℕ, zero, suc, ◌+◌, ◌*◌, ◌/◌, ◌%◌, ◌<◌, ◌≤◌, ◌||◌, nat_lt, not, Bool, true, false, cond, Option, Some, None, List, [], ◌∷◌, length, map, refl, sym, ap, subst, ◌∙◌, arith, eq-eqb}
 use Rattle.std.specs.List.{list_any}
 use Rattle.std.specs.Option.{option_and_then}
-use Rattle.std.proofs.lemmas.Bool.{eqb-true}
 use Rattle.std.proofs.lemmas.Slice.Eq.{bytes_eq-Decides}
 use Rattle.word_tables.specs.declared.geometry.Geometry.{Geometry}
 use Rattle.nvm_model.specs.Cell.{Cell}
@@ -38,6 +37,8 @@ use Rattle.witnesses.specs.Lines.{left_of, line_kept, line_made, line_mixed, may
 use Rattle.witnesses.proofs.ListLemmas.{IsAmong, any_map}
 use Rattle.explorer.specs.Choosing.{has_choice, line_choices, one_if, side_count, word_count}
 use Rattle.explorer.proofs.ChoiceLemmas.{kept_choice, side_differs}
+use Rattle.value_tables.proofs.OnceLemmas.{same_is}
+use Rattle.witnesses.proofs.FilesReadLemmas.{map_among as maps_same}
 
 -- lists that are made alike
 pub list_same : {A : Type 0} (f g : ℕ → A) (first count : ℕ) → ((k : ℕ) → first ≤ k → k < first + count → f k ≡ g k) → list_from f first count ≡ list_from g first count
@@ -45,10 +46,6 @@ list_same f g first zero same = refl
 list_same f g first (suc count) same =
     ap (λ x. x ∷ list_from f (suc first) count) (same first (omega arith) (omega arith))
     ∙ ap (λ xs. g first ∷ xs) (list_same f g (suc first) count (λ k from to. same k (omega (arith, from)) (omega (arith, to))))
-
-pub maps_same : {A B : Type 0} (f g : A → B) (xs : List A) → ((x : A) → IsAmong x xs → f x ≡ g x) → map f xs ≡ map g xs
-maps_same f g [] same = refl
-maps_same f g (x ∷ xs) same = ap (λ y. y ∷ map f xs) (same x (inl refl)) ∙ ap (λ ys. g x ∷ ys) (maps_same f g xs (λ y is. same y (inr is)))
 
 pub maps_joined : {A B C : Type 0} (f : B → C) (g : A → B) (xs : List A) → map f (map g xs) ≡ map (λ x. f (g x)) xs
 maps_joined f g [] = refl
@@ -167,17 +164,6 @@ same_self : (sight : Sight) → same_sight sight sight ≡ true
 same_self (Whole bytes) = (bytes_eq-Decides bytes bytes).1 refl
 same_self Scar = refl
 same_self (BadLine line) = eq-eqb line line refl
-
-same_is : (x y : Sight) → same_sight x y ≡ true → x ≡ y
-same_is (Whole bytes) (Whole others) is = ap Whole ((bytes_eq-Decides bytes others).0 is)
-same_is (Whole bytes) Scar is = cc is
-same_is (Whole bytes) (BadLine line) is = cc is
-same_is Scar (Whole bytes) is = cc is
-same_is Scar Scar is = refl
-same_is Scar (BadLine line) is = cc is
-same_is (BadLine line) (Whole bytes) is = cc is
-same_is (BadLine line) Scar is = cc is
-same_is (BadLine line) (BadLine other) is = ap BadLine (eqb-true line other is)
 
 turned : (a b : Sight) → same_sight a b ≡ same_sight b a
 turned a b = by_tests (same_sight a b) (same_sight b a) refl refl

@@ -13,13 +13,10 @@ use crate::fault::ExploreFault;
 use line_device::LineDevice;
 use line_histories::HeldLine;
 use machine_host::{Host, Outcome};
-use nvm_base::{FileEntry, LINE, PAGE};
+use nvm_base::{FileEntry, LINE, PAGE_LINES};
 use reply_text::Reply;
 use script_text::Command;
 use std::alloc::Global;
-
-/// Lines of a page.
-const PAGE_LINES: u64 = PAGE / LINE;
 
 /// Line n of the file. Past the end it is one of zeros.
 pub fn look_line<D: LineDevice>(

@@ -21,10 +21,7 @@ use crate::ranges::{covers_any, lay};
 use file_pages::{FilePages, PageFault};
 use line_device::Lines;
 use line_words::Interruption;
-use nvm_base::{LINE, PAGE, Span};
-
-/// Lines of a page.
-const PAGE_LINES: u64 = PAGE / LINE;
+use nvm_base::{LINE, PAGE_LINES, Span};
 
 /// Fills a buffer with the new bytes of a page that ranges touch.
 pub(crate) fn build_page<L: Lines>(

@@ -1,4 +1,5 @@
 pub mod AreaLemmas
+pub mod CallLemmas
 pub mod ChangeLemmas
 pub mod CheckLemmas
 pub mod FillLemmas

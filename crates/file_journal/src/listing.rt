@@ -6,8 +6,7 @@ ghost use Rattle.nvm_model.specs.Listing.{is_before, put_file, rises};
 ghost use Rattle.file_journal.specs.Listing.{entry_name, listed, place_of};
 
 use crate::Journal;
-use nvm_base::{FileEntry, FileList, Name};
-use page_table::INODES;
+use nvm_base::{FileEntry, FileList, INODES, Name};
 use std::alloc::{AllocError, Global};
 
 impl Journal {

@@ -5,12 +5,9 @@ ghost use Rattle.inode_table.specs.Slots.{pages_at};
 ghost use Rattle.file_pages.specs.Object.{file_place, unit_place, units_of};
 
 use file_journal::Journal;
-use nvm_base::{LINE, PAGE};
+use nvm_base::PAGE_LINES;
 use page_lines::{Places, Stretch};
 use std::marker::Model;
-
-/// Lines of a page.
-pub(crate) const PAGE_LINES: u64 = PAGE / LINE;
 
 /// The lines of the pages of an inode.
 #[derive(Drop)]

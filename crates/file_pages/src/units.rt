@@ -4,7 +4,7 @@ ghost use Rattle.word_tables.specs.Bounds.{IsValid};
 ghost use Rattle.file_pages.specs.Fresh.{AreOwn, switch_units};
 ghost use Rattle.file_pages.specs.Object.{unit_place};
 
-use crate::lines::PAGE_LINES;
+use nvm_base::PAGE_LINES;
 use page_lines::{Places, Stretch};
 use std::marker::Model;
 use word_tables::Geometry;

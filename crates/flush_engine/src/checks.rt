@@ -14,10 +14,9 @@ ghost use Rattle.flush_engine.specs.Spans.{IsWithin};
 use crate::{FlushFault, next_bad};
 use file_pages::{FilePages, ends_past};
 use line_device::Lines;
-use nvm_base::{LINE, PAGE, Span};
+use nvm_base::{LINE, MOST_SPANS, PAGE, Span};
 
 /// Most spans that are made durable together.
-const MOST_SPANS: usize = 8;
 
 /// Whether spans of a file can be made durable.
 pub fn check<L: Lines>(

@@ -8,12 +8,8 @@ use Rattle.line_device.specs.History.{WordWritesBack}
 use Rattle.line_device.specs.Medium.{Medium, WritesBack, installed, renewed, with_at, zeros}
 use Rattle.line_device.specs.declared.line.LineState.{LineState}
 use Rattle.line_device.specs.declared.line.LineState.TheVariants.{Healthy, Weak, Bad}
-use Rattle.line_device.proofs.CellsLemmas.{word_at-zeros}
+use Rattle.line_device.proofs.CellsLemmas.{same_medium, word_at-zeros}
 use Rattle.image_file.specs.Devices.{is_told_bad, is_told_weak, told_values, medium_of}
-
--- lines are told apart by their parts
-same_medium : (a b : Medium) → a.count ≡ b.count → ((n : ℕ) → a.is_bad n ≡ b.is_bad n) → ((n : ℕ) → a.is_weak n ≡ b.is_weak n) → ((p : ℕ) → a.history p ≡ b.history p) → a ≡ b
-same_medium a b count bad weak history = λ i. record { count = count i; is_bad = λ n. bad n i; is_weak = λ n. weak n i; history = λ p. history p i }
 
 -- so many lines, by what each of them is
 abbrev pub medium_by : ℕ → (ℕ → Option LineState) → Medium

@@ -1,9 +1,8 @@
 -- Setting up, one piece after another.
-use Rattle.std.proofs.Common.{◌≡◌, ℕ, ◌≤◌, refl, sym, ◌∙◌, subst, arith}
-use Rattle.nvm_base.specs.Counts.{Rose}
+use Rattle.std.proofs.Common.{◌≡◌, refl, sym, ◌∙◌, subst, arith}
 use Rattle.line_device.specs.Panel.{Panel, Outcome, HasSetupCause, SetsUp, KeepsPower, with_unit}
 use Rattle.line_device.specs.Panel.Outcome.{went, failed, lost}
-use Rattle.line_device.proofs.PanelLemmas.{arms_nothing-refl, arms_nothing-trans, same_orders-refl, same_orders-trans}
+use Rattle.line_device.proofs.PanelLemmas.{arms_nothing-refl, arms_nothing-trans, rose_later, same_orders-refl, same_orders-trans}
 
 -- nothing is set up
 pub sets_up-refl : (p : Panel) → SetsUp went p p
@@ -17,9 +16,6 @@ sets_up-refl p = record {
   persists = refl;
   orders = same_orders-refl p;
 }
-
-rose_later : (a b c : ℕ) → a ≤ b → Rose b c → Rose a c
-rose_later a b c later rose = omega arith
 
 -- what came before only adds to the cause
 cause_after : (end : Outcome) (p q r : Panel) → SetsUp went p q → HasSetupCause end q r → HasSetupCause end p r

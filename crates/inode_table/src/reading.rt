@@ -5,11 +5,8 @@ ghost use Rattle.inode_table.specs.Words.{inode_words, slot_from, slot_of, slots
 ghost use Rattle.inode_table.specs.Wrong.{AreRight, IsFirstWrong, IsRightFile, IsWrongFile, first_wrong_word};
 
 use crate::{TableFault, slots, words};
-use nvm_base::FileEntry;
+use nvm_base::{FileEntry, INODES};
 use std::alloc::{AllocError, Global};
-
-/// How many inodes there are.
-pub(crate) const INODES: u64 = 64;
 
 const INODE_WORDS: u64 = 8;
 

@@ -40,15 +40,15 @@ ends-push : (x y v : ℕ) → ends (first_and_last x y ++ v ∷ []) ≡ first_an
 ends-push x y v = first_and_last-cases (λ l. ends (l ++ v ∷ []) ≡ first_and_last x v) x y (λ is. ap (λ a. first_and_last a v) (sym is)) refl
 
 -- lines are told apart by their parts
-same_medium : (a b : Medium) → a.count ≡ b.count → ((n : ℕ) → a.is_bad n ≡ b.is_bad n) → ((n : ℕ) → a.is_weak n ≡ b.is_weak n) → ((p : ℕ) → a.history p ≡ b.history p) → a ≡ b
+pub same_medium : (a b : Medium) → a.count ≡ b.count → ((n : ℕ) → a.is_bad n ≡ b.is_bad n) → ((n : ℕ) → a.is_weak n ≡ b.is_weak n) → ((p : ℕ) → a.history p ≡ b.history p) → a ≡ b
 same_medium a b count bad weak history = λ i. record { count = count i; is_bad = λ n. bad n i; is_weak = λ n. weak n i; history = λ p. history p i }
 
-slice_get-set_same : {X : Type 0} → (xs : List X) (i : ℕ) (x : X) → i < length xs → slice_get (set xs i x) i ≡ Some x
+pub slice_get-set_same : {X : Type 0} → (xs : List X) (i : ℕ) (x : X) → i < length xs → slice_get (set xs i x) i ≡ Some x
 slice_get-set_same [] i x within = absurd (omega arith)
 slice_get-set_same (y ∷ ys) zero x within = refl
 slice_get-set_same (y ∷ ys) (suc i) x within = slice_get-set_same ys i x (omega arith)
 
-slice_get-set_other : {X : Type 0} → (xs : List X) (i n : ℕ) (x : X) → (n ≡ i → ⊥) → slice_get (set xs i x) n ≡ slice_get xs n
+pub slice_get-set_other : {X : Type 0} → (xs : List X) (i n : ℕ) (x : X) → (n ≡ i → ⊥) → slice_get (set xs i x) n ≡ slice_get xs n
 slice_get-set_other [] i n x other = refl
 slice_get-set_other (y ∷ ys) zero zero x other = absurd (other refl)
 slice_get-set_other (y ∷ ys) zero (suc n) x other = refl

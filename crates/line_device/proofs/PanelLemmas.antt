@@ -43,7 +43,7 @@ arms_nothing-refl p = record { cut = λ h. h; fail = λ h. h }
 pub arms_nothing-trans : (p q r : Panel) → ArmsNothing p q → ArmsNothing q r → ArmsNothing p r
 arms_nothing-trans p q r a b = record { cut = λ h. a.cut (b.cut h); fail = λ h. a.fail (b.fail h) }
 
-rose_later : (a b c : ℕ) → a ≤ b → Rose b c → Rose a c
+pub rose_later : (a b c : ℕ) → a ≤ b → Rose b c → Rose a c
 rose_later a b c later rose = omega arith
 
 -- what came before only adds to the cause

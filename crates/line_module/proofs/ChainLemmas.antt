@@ -1,25 +1,13 @@
 -- The chains of lines: words that are cleared, and words to which values come.
 use Rattle.std.proofs.Common.{◌≡◌, inl, inr, ℕ, zero, suc, true, false, ◌+◌, ◌<◌, ◌≤◌, List, [], ◌∷◌, ◌++◌, length, set, ◌==◌, if◌then◌else◌, refl, sym, ◌∙◌, ap, arith}
 use Rattle.std.specs.List.{slice_get}
-use Rattle.std.specs.Prelude.{Some}
 use Rattle.std.proofs.lemmas.Bool.{cases_eq, cases_lt, eq-eqb, ne_eqb}
 use Rattle.std.proofs.lemmas.Option.{slice_get_past}
 use Rattle.arrayvec.specs.ArrayVec.{ArrayVec}
 use Rattle.line_device.specs.Word.{word_at, reaches}
 use Rattle.line_module.specs.Memory.{one_more}
 use Rattle.line_module.specs.Chains.{items_in, grown_word}
-
-pub slice_get-set_same : {X : Type 0} → (xs : List X) (i : ℕ) (x : X) → i < length xs → slice_get (set xs i x) i ≡ Some x
-slice_get-set_same [] i x within = absurd (omega arith)
-slice_get-set_same (y ∷ ys) zero x within = refl
-slice_get-set_same (y ∷ ys) (suc i) x within = slice_get-set_same ys i x (omega arith)
-
-pub slice_get-set_other : {X : Type 0} → (xs : List X) (i n : ℕ) (x : X) → (n ≡ i → ⊥) → slice_get (set xs i x) n ≡ slice_get xs n
-slice_get-set_other [] i n x other = refl
-slice_get-set_other (y ∷ ys) zero zero x other = absurd (other refl)
-slice_get-set_other (y ∷ ys) zero (suc n) x other = refl
-slice_get-set_other (y ∷ ys) (suc i) zero x other = refl
-slice_get-set_other (y ∷ ys) (suc i) (suc n) x other = slice_get-set_other ys i n x (λ is. other (ap suc is))
+pub use Rattle.line_device.proofs.CellsLemmas.{slice_get-set_other, slice_get-set_same}
 
 -- one more word without values
 pub empty-push : (xs : List (ArrayVec ℕ)) (v : ArrayVec ℕ) → v.items ≡ [] → ((w : ℕ) → items_in (slice_get xs w) ≡ []) → (w : ℕ) → items_in (slice_get (xs ++ v ∷ []) w) ≡ []

@@ -19,10 +19,7 @@ use Rattle.line_module.proofs.WordsLemmas.{true_is_not_false, any_below-none, an
 use Rattle.line_module.proofs.ChainLemmas.{slice_get-set_same, slice_get-set_other}
 use Rattle.line_module.proofs.OrderLemmas.{has-without_same, has-without_other}
 use Rattle.line_module.proofs.HeldLemmas.{Line, weak-unlisted}
-
--- lines are told apart by their parts
-pub same_medium : (a b : Medium) → a.count ≡ b.count → ((n : ℕ) → a.is_bad n ≡ b.is_bad n) → ((n : ℕ) → a.is_weak n ≡ b.is_weak n) → ((p : ℕ) → a.history p ≡ b.history p) → a ≡ b
-same_medium a b count bad weak history = λ i. record { count = count i; is_bad = λ n. bad n i; is_weak = λ n. weak n i; history = λ p. history p i }
+pub use Rattle.line_device.proofs.CellsLemmas.{same_medium}
 
 -- what is seen of each line, where one is new
 pub seen_at : {X : Type 0} → (f : X → Bool) (new old : ℕ → X) (line : ℕ) (v : Bool) → f (new line) ≡ v → ((n : ℕ) → (n ≡ line → ⊥) → new n ≡ old n) → (n : ℕ) → f (new n) ≡ with_at (λ k. f (old k)) line v n

@@ -67,13 +67,13 @@ beside-flushed m new line x = record {
   word_write_back = λ p out. subst (λ h. WordWritesBack (m.is_weak (p / 8)) h (new.history p)) (on_line-out line (λ _ old. latest old) m.history p out) (x.word_write_back p);
 }
 
-with_at-out : (f : ℕ → Bool) (line : ℕ) (v : Bool) (n : ℕ) → (n ≡ line → ⊥) → with_at f line v n ≡ f n
+pub with_at-out : (f : ℕ → Bool) (line : ℕ) (v : Bool) (n : ℕ) → (n ≡ line → ⊥) → with_at f line v n ≡ f n
 with_at-out f line v n out = ap (λ b. if b then v else f n) (ne_eqb n line out)
 
 with_at-in : (f : ℕ → Bool) (line : ℕ) (v : Bool) → with_at f line v line ≡ v
 with_at-in f line v = ap (λ b. if b then v else f line) (eq-eqb line line refl)
 
-with_at-false : (f : ℕ → Bool) (line n : ℕ) → f n ≡ false → with_at f line false n ≡ false
+pub with_at-false : (f : ℕ → Bool) (line n : ℕ) → f n ≡ false → with_at f line false n ≡ false
 with_at-false f line n h = elim (n == line) as (λ b. (if b then false else f n) ≡ false) [ true ↦ refl | false ↦ h ]
 
 pub beside-cleared : (m new : Medium) (line : ℕ) → WritesBack (cleared m line) new → WritesBackBeside (λ n. n ≡ line) m new

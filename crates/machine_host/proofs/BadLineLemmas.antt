@@ -1,5 +1,5 @@
 -- Which lines of metadata are bad: the lowest one, what a search for it finds, and one more.
-use Rattle.std.proofs.Common.{◌≡◌, inl, inr, ℕ, ◌+◌, ◌*◌, ◌<◌, ◌≤◌, ◌==◌, Bool, zero, suc, true, false, cond, List, [], ◌∷◌, Option, Some, None, option_map, position, slice_index, refl, sym, ◌∙◌, ap, ap₂, arith}
+use Rattle.std.proofs.Common.{◌≡◌, inl, inr, ℕ, ◌+◌, ◌*◌, ◌<◌, ◌≤◌, ◌==◌, Bool, zero, suc, true, false, cond, List, [], ◌∷◌, Option, Some, None, option_map, position, refl, sym, ◌∙◌, ap, ap₂, arith}
 use Rattle.std.specs.Prelude.{filter}
 use Rattle.std.specs.List.{range_with_len}
 use Rattle.std.proofs.lemmas.Bool.{cases_Bool, cases_lt, lt-ltb, le-ltb, ne_eqb, eq-eqb, false≢true}

@@ -8,6 +8,7 @@ use Rattle.line_words.specs.Words.{WritesBackBeside}
 use Rattle.nvm_model.specs.Storage.{Block}
 use Rattle.block_device.specs.Area.{IsBlockLine}
 use Rattle.block_device.specs.Object.{BlocksState, HasGoodMetadata, blocks_of}
+use Rattle.block_device.specs.Calls.{ChangesBlocks}
 use Rattle.block_device.specs.Object as object
 use Rattle.block_device.specs.Images.{AreReadable, EachReads}
 use Rattle.block_device.specs.Refusals.{Refusal, told, Answers, OnRefused, OnWorked, block_outcome}
@@ -247,21 +248,21 @@ marks_kept Q geo old new lines r places answers untouched x n below = by_refusal
     by_refusal (Some w) is (Ok x) answers untouched = absurd answers
     by_refusal (Some w) is (Err f) answers untouched = ap (λ d. d.medium.is_bad n) (untouched (λ none. cc (none, answers))).1
 
--- a call that changes blocks, whichever, by its clauses
-pub called : {D : Type 0} (state : D → Device) (host : HostState) (s : BlocksState) (r : Result (Unit {0}) BlockFault) (P : List Block → Type 0) (calls persists : ℕ) (before after : D) (places : Option Refusal)
-    → Answers (first_there places (blocks.meta_refusal host.blocks.geo (state before).medium)) r → OnRefused r ((s ≡ host.blocks) × (after ≡ before)) → OnWorked r (EachReads host.blocks.geo (state after).medium P)
-    → WritesBackBeside (IsBlockLine host.blocks.geo) (state before).medium (state after).medium → (IsTrue s.settled → object.BlocksServe s (state after).medium)
-    → (s.geo ≡ host.blocks.geo) × (s.settled ≡ is_done (block_outcome r)) → Runs calls persists (block_outcome r) (state before).panel (state after).panel
-    → Called host s r P calls persists (state before) (state after)
-called state host s r P calls persists before after places refused untouched images outside serves object runs = record {
-  untouched = on_refused-then r (λ same. (same.0, ap state same.1)) untouched;
-  images = λ good. images;
-  outside = outside;
-  marks = marks_kept (s ≡ host.blocks) host.blocks.geo (state before) (state after) (IsBlockLine host.blocks.geo) r places refused (on_refused-then r (λ same. (same.0, ap state same.1)) untouched) outside;
-  serves = serves;
-  object = object;
-  runs = runs;
-}
+-- a call that changes blocks, whichever
+pub called : {D : Type 0} (state : D → Device) (host : HostState) (s : BlocksState) (before after : D) (r : Result (Unit {0}) BlockFault) (places : Option Refusal) (to : List Block → List Block) (Between : List Block → List Block → List Block → Type 0) (calls persists : ℕ)
+    → ChangesBlocks state host.blocks s before after r (first_there places (blocks.meta_refusal host.blocks.geo (state before).medium)) to Between calls persists
+    → Called host s r (Between (blocks_of host.blocks (state before).medium) (to (blocks_of host.blocks (state before).medium))) calls persists (state before) (state after)
+called state host s before after r places to Between calls persists said =
+    let untouched = on_refused-then r (λ same. (same.0, ap state same.1)) said.untouched in
+    record {
+      untouched = untouched;
+      images = λ good. said.images;
+      outside = said.outside;
+      marks = marks_kept (s ≡ host.blocks) host.blocks.geo (state before) (state after) (IsBlockLine host.blocks.geo) r places said.refused untouched said.outside;
+      serves = said.serves;
+      object = said.object;
+      runs = said.runs;
+    }
 
 -- of a state that the host stands for, the refusals of the blocks are the machine's
 module _ (host : HostState) (old : Device) (h : Machine) (serves : HostServes host old) (stands : Stands host old h) (on : host.mode ≡ On) where

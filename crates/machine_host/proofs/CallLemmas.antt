@@ -41,6 +41,11 @@ pub on_refused-then : {T E R P Q : Type 0} (says : E → Told R) (r : Result T E
 on_refused-then says (Ok x) then_ p = tt
 on_refused-then says (Err f) then_ p = λ told. then_ (p told)
 
+-- and where it was not
+pub worked-then : {T E R P Q : Type 0} (says : E → Told R) (q : Result T E) → (P → Q) → OnWorked says q P → OnWorked says q Q
+worked-then says (Ok x) then_ p = then_ p
+worked-then says (Err f) then_ p = λ stop. then_ (p stop)
+
 -- what a call is answered that gives no bytes is short
 pub short_told : {R : Type 0} (answer : R → Answer) → ((w : R) → most_of (answer w) ≤ 72) → (t : Told R) → most_of (told_answer answer t) ≤ 72
 short_told answer short (Refuses why) = short why

@@ -1,5 +1,5 @@
 -- What comes of the actions that leave a file old or new, by what they refuse.
-use Rattle.std.proofs.Common.{◌≡◌, ◌+◌, ◌-◌, ◌==◌, ℕ, Bool, true, false, Option, Some, None, option_map, List, length, nat_lt, if◌then◌else◌, refl, ap, ap₂, ◌∙◌}
+use Rattle.std.proofs.Common.{◌≡◌, ◌+◌, ◌==◌, ℕ, Bool, true, false, Option, Some, None, option_map, List, length, nat_lt, if◌then◌else◌, refl, ap, ap₂, ◌∙◌}
 use Rattle.line_device.specs.Medium.{Medium}
 use Rattle.nvm_base.specs.declared.units.Span.{Span}
 use Rattle.page_table.specs.Pages.{used_pages}

@@ -28,17 +28,13 @@ use Rattle.machine_model.specs.Machine.{Machine}
 use Rattle.machine_model.specs.Machine.Fate.{Works}
 use Rattle.machine_host.specs.Responding.{Answered}
 use Rattle.machine_host.specs.Stands.{HasRoom, HostServes, HostState, Stands}
-use Rattle.machine_host.proofs.CallLemmas.{IsPart, on_refused-then}
+use Rattle.machine_host.proofs.CallLemmas.{IsPart, on_refused-then, worked-then}
 use Rattle.machine_host.proofs.EventLemmas.{files_rise}
 use Rattle.machine_host.proofs.FilePageCallLemmas.{AreReady, LeavesOthers, PagesCalled, both_settled, pages_after, work_answered}
 use Rattle.machine_host.proofs.FilePageLemmas.{file_seen}
 use Rattle.machine_host.proofs.RoomLemmas.{room_then}
 use Rattle.machine_host.proofs.WeakFileLemmas.{change-weak}
 use Rattle.machine_host.specs.Keeping.{Changes, reach}
-
-worked-then : {T E R P Q : Type 0} (says : E → Told R) (q : Result T E) → (P → Q) → OnWorked says q P → OnWorked says q Q
-worked-then says (Ok x) then_ p = then_ p
-worked-then says (Err f) then_ p = λ stop. then_ (p stop)
 
 -- What it makes of the file, at Ok.
 abbrev pub MakesFile : {E : Type 0} → Result (Unit {0}) E → HostState → PagesState → Medium → Medium → ℕ → (List Page → List Page) → Type 0

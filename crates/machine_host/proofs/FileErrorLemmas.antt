@@ -56,7 +56,7 @@ use Rattle.nvm_base.specs.Stock.{Stock}
 use Rattle.machine_host.proofs.RoomLemmas.{room_then, serves_telling, stands_telling, telling}
 use Rattle.machine_host.proofs.WeakFileLemmas.{change-weak}
 use Rattle.machine_host.proofs.WeakLineLemmas.{clear-weak}
-use Rattle.machine_host.specs.Keeping.{Changes, Reach, is_refusal, reach}
+use Rattle.machine_host.specs.Keeping.{Changes, Reach, reach}
 use Rattle.machine_host.specs.Keeping.Reach.{OneLine}
 use Rattle.machine_host.proofs.KeepLemmas.{but_named, keeps_answer}
 use Rattle.line_device.specs.Medium.{WritesBack}

@@ -1,5 +1,5 @@
 -- What a sync of a whole file comes to.
-use Rattle.std.proofs.Common.{◌≡◌, ◌+◌, ◌*◌, ◌≤◌, ◌++◌, ◌∙◌, ℕ, zero, suc, true, Option, Some, None, option_map, Result, Ok, Err, OnErr, OnOk, List, length, if◌then◌else◌, refl, sym, ap, ap₂, subst, arith}
+use Rattle.std.proofs.Common.{◌≡◌, ◌*◌, ◌≤◌, ◌++◌, ◌∙◌, ℕ, zero, suc, true, Option, Some, None, option_map, Result, Ok, Err, OnErr, OnOk, List, length, if◌then◌else◌, refl, sym, ap, ap₂, subst, arith}
 use Rattle.line_device.specs.Device.{Device}
 use Rattle.line_device.specs.Panel.{Runs}
 use Rattle.line_words.specs.Told.{Answers, OnRefused, OnWorked, is_done, outcome_by}

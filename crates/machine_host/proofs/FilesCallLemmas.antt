@@ -23,6 +23,7 @@ use Rattle.pm_volume.specs.Area.{IsOfVolume}
 use Rattle.pm_volume.proofs.StandingLemmas.{each_pages-then}
 use Rattle.file_journal.specs.Area.{IsOfFiles, file_area}
 use Rattle.file_journal.specs.Device.{device_files}
+use Rattle.file_journal.specs.Calls.{ChangesFiles}
 use Rattle.file_journal.specs.Images.{EachReadsTables, IsEither}
 use Rattle.file_journal.specs.Listing.{listed}
 use Rattle.file_journal.specs.Object.{JournalServes, JournalState, KeepsUnits}
@@ -70,16 +71,8 @@ use Rattle.machine_host.specs.Keeping.{Changes, is_refusal, reach}
 use Rattle.machine_host.proofs.KeepLemmas.{keeps_called, keeps_inside}
 
 -- What a call that changes files says, whichever it is: it leaves these tables, or those before it.
-pub record FilesCalled (host : HostState) (s : JournalState) (r : Result (Unit {0}) JournalFault) (why : Option JournalRefusal) (to : Tables) (words : ℕ) (old new : Device) : Type 0 where
-  pub refused : Answers journal_says why r
-  pub untouched : OnRefused journal_says r ((s ≡ host.files.pages.journal) × (new ≡ old))
-  pub ok : OnOk r (s.tables ≡ to)
-  pub images : OnWorked journal_says r (EachReadsTables host.files.pages.journal.geo new.medium (IsEither host.files.pages.journal.tables to))
-  pub outside : WritesBackOutside (IsOf (file_area host.files.pages.journal.geo)) old.medium new.medium
-  pub serves : IsTrue s.settled → JournalServes s new.medium
-  pub object : (s.geo ≡ host.files.pages.journal.geo) × (s.settled ≡ is_done (outcome_by journal_says r))
-  pub units : OnOk r (KeepsUnits 0 host.files.pages.journal s)
-  pub runs : Runs (commit_calls words) (commit_persists words) (outcome_by journal_says r) old.panel new.panel
+abbrev pub FilesCalled : HostState → JournalState → Result (Unit {0}) JournalFault → Option JournalRefusal → Tables → ℕ → Device → Device → Type 0
+FilesCalled host s r why to words old new = ChangesFiles (λ (d : Device). d) host.files.pages.journal s old new r why to 0 words
 
 -- its answers
 never_starves : (f : JournalFault) → journal_says f ≡ Starves → ⊥
@@ -271,22 +264,18 @@ module _ (host : HostState) (s : JournalState) (r : Result (Unit {0}) JournalFau
         by_result (Err e) answers images = λ stop. left (images stop) (worked_none {T = Unit {0}} journal_says why (Err e) answers stop)
 
 -- a call that changes files, whichever, by its clauses
-pub files_called : {D : Type 0} (state : D → Device) (host : HostState) (s : JournalState) (r : Result (Unit {0}) JournalFault) (why : Option JournalRefusal) (to : Tables) (words : ℕ) (before after : D)
-    → Answers journal_says why r → OnRefused journal_says r ((s ≡ host.files.pages.journal) × (after ≡ before)) → OnOk r (s.tables ≡ to)
-    → OnWorked journal_says r (EachReadsTables host.files.pages.journal.geo (state after).medium (IsEither host.files.pages.journal.tables to)) → WritesBackOutside (IsOf (file_area host.files.pages.journal.geo)) (state before).medium (state after).medium
-    → (IsTrue s.settled → JournalServes s (state after).medium) → (s.geo ≡ host.files.pages.journal.geo) × (s.settled ≡ is_done (outcome_by journal_says r))
-    → OnOk r (KeepsUnits 0 host.files.pages.journal s)
-    → Runs (commit_calls words) (commit_persists words) (outcome_by journal_says r) (state before).panel (state after).panel → FilesCalled host s r why to words (state before) (state after)
-files_called state host s r why to words before after refused untouched ok images outside serves object units runs = record {
-  refused = refused;
-  untouched = on_refused-then journal_says r (λ same. (same.0, ap state same.1)) untouched;
-  ok = ok;
-  images = images;
-  outside = outside;
-  serves = serves;
-  object = object;
-  units = units;
-  runs = runs;
+pub files_called : {D : Type 0} (state : D → Device) (host : HostState) (s : JournalState) (before after : D) (r : Result (Unit {0}) JournalFault) (why : Option JournalRefusal) (to : Tables) (words : ℕ)
+    → ChangesFiles state host.files.pages.journal s before after r why to 0 words → FilesCalled host s r why to words (state before) (state after)
+files_called state host s before after r why to words said = record {
+  refused = said.refused;
+  untouched = on_refused-then journal_says r (λ same. (same.0, ap state same.1)) said.untouched;
+  ok = said.ok;
+  images = said.images;
+  outside = said.outside;
+  serves = said.serves;
+  object = said.object;
+  units = said.units;
+  runs = said.runs;
 }
 
 -- A change of files, by its row, is answered. Of a host behind a reference `host` is what is inside `now`, and `after` what the answer leaves.

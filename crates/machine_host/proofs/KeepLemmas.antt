@@ -1,8 +1,7 @@
 -- What commands leave of host and lines, by their answers.
 use Rattle.std.proofs.Common.{◌≡◌, ◌≢◌, ℕ, ◌/◌, Bool, true, false, Option, Some, None, option_map, Result, Ok, Err, List, refl, sym, ap, subst, ◌∙◌, arith}
 use Rattle.std.proofs.lemmas.Bool.{false≢true}
-use Rattle.line_device.specs.History.{WordWritesBack}
-use Rattle.line_device.specs.Medium.{Medium, WritesBack, poisoned}
+use Rattle.line_device.specs.Medium.{Medium, WritesBack}
 use Rattle.line_device.specs.Device.{Device}
 use Rattle.line_device.proofs.WriteBackLemmas.{write_back-refl}
 use Rattle.line_words.specs.declared.interruption.Interruption.TheVariants.{Failed, PowerLost}

@@ -1,3 +1,4 @@
+mod InsideLemmas
 pub mod VolumeLemmas
 pub mod TellingLemmas
 pub mod CostLemmas

@@ -55,7 +55,7 @@ use Rattle.machine_host.proofs.MediaLemmas.{IsRefusal, answers_told, blocks_mark
 use Rattle.machine_model.proofs.RefusalLemmas.{fate_worked, first_alone}
 use Rattle.machine_host.proofs.VolumeCallLemmas.{VolumeCalled}
 use Rattle.machine_host.proofs.VolumeLemmas.{volume_behind}
-use Rattle.machine_host.specs.Keeping.{Changes, Reach, is_refusal, reach}
+use Rattle.machine_host.specs.Keeping.{Changes, Reach, reach}
 use Rattle.machine_host.specs.Keeping.Reach.{OneLine}
 use Rattle.machine_host.proofs.KeepLemmas.{but_named, keeps_answer, roomier-same}
 use Rattle.block_map.specs.declared.state.BlockState.{BlockState}

@@ -53,17 +53,13 @@ module _ (now host after : HostState) (s : VolumeState) (r : Result (Unit {0}) V
       (ap (λ k. k.volume.geo) inside ∙ mounted.volume_geometry) (ap (λ k. length k.volume.present) inside ∙ mounted.volume_serves.all ∙ sym (ap (λ k. k.volume.geo.vpages) inside)) holds in
       subst (λ v. VolumeHolds v new.medium pages) (sym object) (record { there = kept.there; stand = kept.stand })
 
-  same_again : (q : Result (Unit {0}) VolumeFault) → OnRefused volume_says q (Q × (new ≡ old)) → OnRefused volume_says q (new ≡ old)
-  same_again (Ok x) left = tt
-  same_again (Err f) left = λ told. (left told).1
-
   on_worked : {P : Type 0} (q : Result (Unit {0}) VolumeFault) → P → OnWorked volume_says q P
   on_worked (Ok x) p = p
   on_worked (Err f) p = λ stop. p
 
   call : VolumeCalled volume_says host s r (MayLeaveVolume host.volume.geo (Some (VLoad offset len))) calls 0 old new
   call = record {
-    untouched = same_volume (new ≡ old) host.volume s r object (settled_was now host old inside on serves) (same_again r untouched);
+    untouched = same_volume host.volume s (Q × (new ≡ old)) (new ≡ old) r object (settled_was now host old inside on serves) (λ same. same.1) untouched;
     images = on_worked r (λ pages holds. subst (λ g. EachReadsPages g new.medium (λ x. x ≡ pages)) (ap (λ k. k.geo) object) (served_pages s new.medium pages served (holds_after pages holds)));
     outside = others-write_back (IsOfVolume host.volume.geo) old.medium new.medium lines;
     marks = λ n below. lines.bad n;

@@ -1,5 +1,5 @@
--- What a mount does to lines with the host's layout, and what it gives.
-use Rattle.std.proofs.Common.{◌≡◌, ◌≢◌, ℕ, ◌<◌, IsTrue, List, [], ◌∷◌, None, refl, sym, subst, ◌∙◌, ◌≤◌}
+-- What a mount leaves of lines with the host's layout.
+use Rattle.std.proofs.Common.{◌≡◌, ℕ, ◌<◌, List, [], ◌∷◌, None, refl, sym, subst, ◌∙◌}
 use Rattle.std.proofs.lemmas.Option.{none-some}
 use Rattle.line_device.specs.Medium.{IsSound, WritesBack, last_image}
 use Rattle.line_device.specs.Device.{Device}
@@ -7,20 +7,11 @@ use Rattle.line_words.specs.Words.{WritesBackOutside}
 use Rattle.word_tables.specs.declared.geometry.Geometry.{Geometry}
 use Rattle.word_tables.specs.Layout.{meta_lines}
 use Rattle.word_log.specs.Mount.Finding.{bad_line}
-use Rattle.word_log.specs.Rest.{EachImage, IsReached}
-use Rattle.block_device.specs.Object.{BlocksState, BlocksServe, blocks_of}
-use Rattle.block_device.specs.Reading.{blocks_read}
 use Rattle.block_device.specs.Images.{AreReadable, KeepsReads, ReadsAs}
 use Rattle.block_device.proofs.ReachLemmas.{each_reads-kept}
 use Rattle.block_device.proofs.RestartLemmas.{block_image-last}
-use Rattle.pm_volume.specs.Area.{volume_area}
-use Rattle.pm_volume.specs.Object.{VolumeState, VolumeServes}
-use Rattle.pm_volume.specs.Presence.{presence_read}
-use Rattle.file_journal.specs.Area.{file_area}
-use Rattle.file_journal.specs.Object.{JournalServes}
-use Rattle.file_journal.specs.Reading.{tables_read}
-use Rattle.file_journal.specs.Tables.{known_units}
-use Rattle.recovery.specs.Findings.{geometry_told, early_finding, inspection_finding, first_finding}
+use Rattle.recovery.specs.Calls.{LeavesDevice}
+use Rattle.recovery.specs.Findings.{first_finding}
 use Rattle.recovery.specs.Mounting.{HasDurableBlocks, IsOfLogs}
 use Rattle.recovery.proofs.FindingLemmas.{early_inspection}
 use Rattle.machine_host.specs.Lines.{HasLayout}
@@ -28,41 +19,9 @@ use Rattle.machine_model.specs.Lines.{bad_metadata}
 use Rattle.machine_host.proofs.BadLineLemmas.{bad_early, bad_found, good_lines}
 use Rattle.machine_host.proofs.LayoutLemmas.{IsGood, is_good, layout-outside, layout-write_back, same_bad}
 use Rattle.machine_host.proofs.MountLemmas.{first_not_area, is_told}
-use Rattle.nvm_base.specs.Stock.{Stock}
-use Rattle.nvm_model.specs.Storage.{Event, File}
-use Rattle.file_pages.specs.Object.{PagesState}
-use Rattle.nvm_model.specs.Events.{restart_events, weak_file_lines}
-use Rattle.file_journal.specs.Standing.{FilesStand}
-
--- what a mount does, as its clauses say it
-pub record IsMount (old new : Device) : Type 0 where
-  pub outside : WritesBackOutside (IsOfLogs (geometry_told old.medium)) old.medium new.medium
-  pub refused : inspection_finding old.medium ≢ None → WritesBack old.medium new.medium
-  pub reads : early_finding old.medium ≡ None → KeepsReads (geometry_told old.medium) old.medium new.medium
-  pub presence : EachImage (volume_area (geometry_told old.medium)) new.medium (IsReached (volume_area (geometry_told old.medium)) old.medium)
-  pub files : EachImage (file_area (geometry_told old.medium)) new.medium (IsReached (file_area (geometry_told old.medium)) old.medium)
-
--- what it gives where it is done
-pub record Gives (old new : Device) (s : BlocksState) (v : VolumeState) (p : PagesState) (e : Stock Event) : Type 0 where
-  pub geometry : s.geo ≡ geometry_told old.medium
-  pub settled : IsTrue s.settled
-  pub serves : HasDurableBlocks old.medium → BlocksServe s new.medium
-  pub blocks : blocks_of s new.medium ≡ blocks_read (geometry_told old.medium) old.medium.is_bad (last_image old.medium)
-  pub volume_geometry : v.geo ≡ geometry_told old.medium
-  pub present : v.present ≡ presence_read (geometry_told old.medium) (last_image old.medium)
-  pub volume_settled : IsTrue v.settled
-  pub volume_serves : VolumeServes v new.medium
-  pub journal_geometry : p.journal.geo ≡ geometry_told old.medium
-  pub tables : p.journal.tables ≡ tables_read (geometry_told old.medium) (last_image old.medium)
-  pub journal_settled : IsTrue p.journal.settled
-  pub journal_serves : JournalServes p.journal new.medium
-  pub journal_held : known_units p.journal.tables.pages p.journal.free ≡ (geometry_told old.medium).fpages
-  pub pages_settled : IsTrue p.settled
-  pub events : (files : List File) → FilesStand p.journal.geo new.medium p.journal.tables files → e.items ≡ restart_events files
-  pub room : (files : List File) → FilesStand p.journal.geo new.medium p.journal.tables files → weak_file_lines files ≤ e.spare
 
 -- a mount of lines with the host's layout
-module _ (geo : Geometry) (old new : Device) (layout : HasLayout geo old.medium) (sound : IsSound old.medium) (x : IsMount old new) where
+module _ (geo : Geometry) (old new : Device) (layout : HasLayout geo old.medium) (sound : IsSound old.medium) (x : LeavesDevice old.medium new.medium) where
   pub good_of : bad_metadata geo old.medium.is_bad ≡ [] → IsGood geo old.medium
   good_of none = is_good layout (good_lines geo old.medium none)
 

@@ -15,7 +15,7 @@ use Rattle.word_log.specs.Mount.{Finding}
 use Rattle.word_log.specs.Mount.Finding.{bad_line, wrong_word}
 use Rattle.word_log.specs.Rest.{EachImage, IsReached}
 use Rattle.nvm_model.specs.Page.{is_present, presence_of, PagesStand}
-use Rattle.block_device.specs.Object.{BlocksState, BlocksServe, HasGoodMetadata, blocks_of}
+use Rattle.block_device.specs.Object.{BlocksServe, HasGoodMetadata, blocks_of}
 use Rattle.block_device.specs.Reading.{blocks_read}
 use Rattle.block_device.specs.Images.{EachReads, KeepsReads, ReadsAs}
 use Rattle.block_device.proofs.ImageLemmas.{each_reads-then, served_reads}
@@ -23,7 +23,7 @@ use Rattle.block_device.proofs.ReachLemmas.{each_reads-kept}
 use Rattle.block_device.proofs.RestartLemmas.{block_image-last}
 use Rattle.pm_volume.specs.Area.{volume_area}
 use Rattle.pm_volume.specs.Images.{EachReadsPages, ReadsPages}
-use Rattle.pm_volume.specs.Object.{VolumeState, VolumeHolds}
+use Rattle.pm_volume.specs.Object.{VolumeHolds}
 use Rattle.pm_volume.specs.Presence.{presence_read}
 use Rattle.pm_volume.proofs.StandingLemmas.{each_pages-reached, each_pages-then, pages-kept, presence_read-replays, served_pages}
 use Rattle.file_journal.specs.Area.{file_area}
@@ -34,6 +34,8 @@ use Rattle.file_journal.proofs.EachFilesLemmas.{each_files-reached, each_files-t
 use Rattle.file_journal.proofs.ServesLemmas.{served_files}
 use Rattle.file_journal.proofs.StandingLemmas.{files-kept}
 use Rattle.file_journal.proofs.TableReadLemmas.{tables_read-replays}
+use Rattle.recovery.specs.Calls.{IsMounted, LeavesDevice}
+use Rattle.recovery.specs.declared.Mounted.{Mounted}
 use Rattle.recovery.specs.Findings.{geometry_told, first_finding}
 use Rattle.reply_text.specs.Answer.{Answer}
 use Rattle.reply_text.specs.Answer.Answer.{DoneBad, Stopped}
@@ -53,13 +55,10 @@ use Rattle.machine_model.specs.Lines.{bad_metadata}
 use Rattle.machine_host.specs.Stands.{HostState, HostServes, Stands, is_powered, just_mounted}
 use Rattle.machine_host.proofs.BadLineLemmas.{bad_found, found_bad, good_lines}
 use Rattle.machine_host.proofs.LogLineLemmas.{file_pages_kept, range_kept}
-use Rattle.machine_host.proofs.MountEffectLemmas.{Gives, IsMount, durable_mount, good_of, layout_mount, marks_mount, none_found, outside_of, readable_mount}
+use Rattle.machine_host.proofs.MountEffectLemmas.{durable_mount, good_of, layout_mount, marks_mount, none_found, outside_of, readable_mount}
 use Rattle.machine_host.proofs.LayoutLemmas.{IsGood, metadata-then, stays_bad}
 use Rattle.machine_host.proofs.MountLemmas.{IsTold, file_image-last, found_tables, is_told, nothing_wrong_there, volume_image-last}
 use Rattle.machine_host.proofs.TellingLemmas.{interrupts, never_on, never_stops, power_struck, struck, tells_interrupted, tells_work}
-use Rattle.nvm_base.specs.Stock.{Stock}
-use Rattle.nvm_model.specs.Storage.{Event}
-use Rattle.file_pages.specs.Object.{PagesState}
 use Rattle.machine_host.proofs.RoomLemmas.{room_of}
 
 -- What it comes to in a state that host and device stand for: it ran through, or was interrupted.
@@ -75,7 +74,7 @@ pub record BroughtUp (h : Machine) (after : HostState) (new : Device) : Type 0 w
   pub may : RecoveryMayLeave h next
   pub stands : Stands after new next
 
-module _ (host : HostState) (old new : Device) (serves : HostServes host old) (unsettled : host.mode ≡ modes.Unsettled) (sound : IsSound old.medium) (x : IsMount old new) where
+module _ (host : HostState) (old new : Device) (serves : HostServes host old) (unsettled : host.mode ≡ modes.Unsettled) (sound : IsSound old.medium) (x : LeavesDevice old.medium new.medium) where
   -- the host in another mode, with nothing mounted
   abbrev pub in_mode : Mode → HostState
   in_mode mode = record { geometry = host.geometry; unit = host.unit; mode = mode; blocks = host.blocks; volume = host.volume; files = host.files }
@@ -93,9 +92,9 @@ module _ (host : HostState) (old new : Device) (serves : HostServes host old) (u
   }
 
   -- the mount was done
-  module _ (runs : Runs mount_calls mount_persists went old.panel new.panel) (found : first_finding old.medium ≡ None) (s : BlocksState) (v : VolumeState) (p : PagesState) (e : Stock Event) (given : Gives old new s v p e) where
+  module _ (runs : Runs mount_calls mount_persists went old.panel new.panel) (found : first_finding old.medium ≡ None) (made : Mounted) (given : IsMounted old.medium new.medium made) where
     abbrev pub taken : HostState
-    taken = record { geometry = host.geometry; unit = host.unit; mode = modes.On; blocks = s; volume = v; files = just_mounted p e }
+    taken = record { geometry = host.geometry; unit = host.unit; mode = modes.On; blocks = made.blocks; volume = made.volume; files = just_mounted made.files made.events }
 
     none : bad_metadata host.geometry old.medium.is_bad ≡ []
     none = none_found host.geometry old new serves.layout sound x found
@@ -106,11 +105,11 @@ module _ (host : HostState) (old new : Device) (serves : HostServes host old) (u
     told : IsTold host.geometry old.medium
     told = is_told host.geometry old.medium good sound
 
-    right : AreTables host.geometry.fpages p.journal.tables
-    right = subst (λ g. AreTables g.fpages p.journal.tables) told.sizes (subst (AreTables (geometry_told old.medium).fpages) (sym given.tables) (found_tables old.medium found))
+    right : AreTables host.geometry.fpages made.files.journal.tables
+    right = subst (λ g. AreTables g.fpages made.files.journal.tables) told.sizes (subst (AreTables (geometry_told old.medium).fpages) (sym given.tables) (found_tables old.medium found))
 
-    served : BlocksServe s new.medium
-    served = given.serves (durable_mount host.geometry old new serves.layout sound x serves.readable none)
+    served : BlocksServe made.blocks new.medium
+    served = given.blocks_serve (durable_mount host.geometry old new serves.layout sound x serves.readable none)
 
     pub serves_taken : HostServes taken new
     serves_taken = record {
@@ -118,20 +117,20 @@ module _ (host : HostState) (old new : Device) (serves : HostServes host old) (u
       readable = readable_mount host.geometry old new serves.layout sound x serves.readable;
       power = runs.cause.0 ∙ serves.power ∙ ap is_powered unsettled;
       mounted = λ _. record {
-        geometry = given.geometry ∙ told.sizes;
-        settled = given.settled;
+        geometry = given.blocks_geo ∙ told.sizes;
+        settled = given.settled.0;
         serves = served;
-        volume_geometry = given.volume_geometry ∙ told.sizes;
-        volume_settled = given.volume_settled;
+        volume_geometry = given.volume_geo ∙ told.sizes;
+        volume_settled = given.settled.1;
         volume_serves = given.volume_serves;
-        journal_geometry = given.journal_geometry ∙ told.sizes;
-        journal_settled = given.journal_settled;
+        journal_geometry = given.journal_geo ∙ told.sizes;
+        journal_settled = given.settled.2;
         journal_serves = given.journal_serves;
         journal_right = right;
-        journal_held = given.journal_held ∙ ap (λ g. g.fpages) told.sizes;
-        pages_settled = given.pages_settled;
+        journal_held = given.held ∙ ap (λ (g : Geometry). g.fpages) (given.geo ∙ told.sizes);
+        pages_settled = given.settled.3;
         mapped = tt;
-        room = room_of (just_mounted p e) new.medium given.room;
+        room = room_of (just_mounted made.files made.events) new.medium given.room;
       };
       stopped = λ stop. cc stop;
     }
@@ -159,7 +158,7 @@ module _ (host : HostState) (old new : Device) (serves : HostServes host old) (u
 
     volume_kept : h.bad_meta ≡ [] → EachReadsPages geo new.medium (MayLeaveVolume geo h.interrupted h.volume)
     volume_kept good =
-        let presence = subst (λ g. EachImage (volume_area g) new.medium (IsReached (volume_area g) old.medium)) (told_of good).sizes x.presence in
+        let presence = subst (λ g. EachImage (volume_area g) new.medium (IsReached (volume_area g) old.medium)) (told_of good).sizes x.volume in
         each_pages-reached geo old.medium new.medium (MayLeaveVolume geo h.interrupted h.volume) was.valid presence
         (range_kept geo old.medium new.medium was.valid (outside_of geo old new was sound x (none_of good))) (stands.device.volume good)
 
@@ -289,7 +288,7 @@ module _ (host : HostState) (old new : Device) (serves : HostServes host old) (u
         }
 
       -- A mount that was done brings the host into mode On.
-      module _ (found : first_finding old.medium ≡ None) (s : BlocksState) (v : VolumeState) (p : PagesState) (e : Stock Event) (given : Gives old new s v p e) where
+      module _ (found : first_finding old.medium ≡ None) (made : Mounted) (given : IsMounted old.medium new.medium made) where
         good_meta : h.bad_meta ≡ []
         good_meta = sym stands.device.metadata.bad ∙ none_found geo old new was sound x found
 
@@ -303,13 +302,13 @@ module _ (host : HostState) (old new : Device) (serves : HostServes host old) (u
         pages_last = stands.device.volume good_meta (last_image old.medium) (volume_image-last geo old.medium sound (good_of geo old new was sound x (none_of good_meta)))
 
         -- the volume that was mounted stands for its pages
-        holds : VolumeHolds v new.medium pages_last.pages
+        holds : VolumeHolds made.volume new.medium pages_last.pages
         holds =
             let pages = pages_last.pages in
             let size : length (presence_of pages) ≡ geo.vpages = length-map pages is_present ∙ pages_last.all in
             record {
               there = sym (given.present ∙ ap (λ g. presence_read g (last_image old.medium)) told_now.sizes ∙ presence_read-replays geo (last_image old.medium) (presence_of pages) size pages_last.replays);
-              stand = subst (λ g. PagesStand (volume_line g) new.medium pages) (sym (given.volume_geometry ∙ told_now.sizes))
+              stand = subst (λ g. PagesStand (volume_line g) new.medium pages) (sym (given.volume_geo ∙ told_now.sizes))
                   (pages-kept geo old.medium new.medium pages pages_last.all (range_kept geo old.medium new.medium was.valid (outside_of geo old new was sound x (none_of good_meta))) pages_last.stand);
             }
 
@@ -317,23 +316,23 @@ module _ (host : HostState) (old new : Device) (serves : HostServes host old) (u
         files_last = stands.device.files good_meta (last_image old.medium) (file_image-last geo old.medium sound (good_of geo old new was sound x (none_of good_meta)))
 
         -- and the journal for its files
-        stands_for : FilesStand p.journal.geo new.medium p.journal.tables files_last.files
+        stands_for : FilesStand made.files.journal.geo new.medium made.files.journal.tables files_last.files
         stands_for =
             let t = files_last.tables in
             let tables = given.tables ∙ ap (λ g. tables_read g (last_image old.medium)) told_now.sizes
             ∙ tables_read-replays geo (last_image old.medium) files_last.word t files_last.replays files_last.holds files_last.right in
-            subst (λ g. FilesStand g new.medium p.journal.tables files_last.files) (sym (given.journal_geometry ∙ told_now.sizes))
+            subst (λ g. FilesStand g new.medium made.files.journal.tables files_last.files) (sym (given.journal_geo ∙ told_now.sizes))
             (subst (λ (x : Tables). FilesStand geo new.medium x files_last.files) (sym tables)
             (files-kept geo old.medium new.medium t files_last.files files_last.right
             (file_pages_kept geo old.medium new.medium was.valid (outside_of geo old new was sound x (none_of good_meta))) files_last.stand))
 
-        seen : blocks_of s new.medium ≡ blocks_read geo old.medium.is_bad (last_image old.medium)
+        seen : blocks_of made.blocks new.medium ≡ blocks_read geo old.medium.is_bad (last_image old.medium)
         seen = given.blocks ∙ ap (λ g. blocks_read g old.medium.is_bad (last_image old.medium)) told_now.sizes
 
-        pub done_up : BroughtUp h (taken runs found s v p e given) new
+        pub done_up : BroughtUp h (taken runs found made given) new
         done_up =
-            let mounted = (serves_taken runs found s v p e given).mounted refl in
-            let next : Machine = record (holding geo (blocks_of s new.medium) pages_last.pages files_last.files) { unit = h.unit; cut_armed = h.cut_armed; fail_armed = h.fail_armed } in
+            let mounted = (serves_taken runs found made given).mounted refl in
+            let next : Machine = record (holding geo (blocks_of made.blocks new.medium) pages_last.pages files_last.files) { unit = h.unit; cut_armed = h.cut_armed; fail_armed = h.fail_armed } in
             record {
               next = next;
               may = subst (λ lines. RecoversTo lines h next) (sym good_meta)
@@ -351,12 +350,12 @@ module _ (host : HostState) (old new : Device) (serves : HostServes host old) (u
                   unit = runs.orders.unit ∙ stands.device.unit;
                   metadata = subst (MetadataStands geo new.medium) good_meta metadata;
                   blocks = λ _.
-                      subst (λ g. EachReads g new.medium (λ bs. bs ≡ blocks_of s new.medium)) (mounted.geometry ∙ stands.geometry)
-                      (served_reads s new.medium (subst (λ g. HasGoodMetadata g new.medium) (sym (mounted.geometry ∙ stands.geometry)) (good_lines geo new.medium (metadata.bad ∙ good_meta))) mounted.serves);
-                  volume = λ _. subst (λ g. EachReadsPages g new.medium (λ pages. pages ≡ pages_last.pages)) (given.volume_geometry ∙ told_now.sizes) (served_pages v new.medium pages_last.pages given.volume_serves holds);
+                      subst (λ g. EachReads g new.medium (λ bs. bs ≡ blocks_of made.blocks new.medium)) (mounted.geometry ∙ stands.geometry)
+                      (served_reads made.blocks new.medium (subst (λ g. HasGoodMetadata g new.medium) (sym (mounted.geometry ∙ stands.geometry)) (good_lines geo new.medium (metadata.bad ∙ good_meta))) mounted.serves);
+                  volume = λ _. subst (λ g. EachReadsPages g new.medium (λ pages. pages ≡ pages_last.pages)) (given.volume_geo ∙ told_now.sizes) (served_pages made.volume new.medium pages_last.pages given.volume_serves holds);
                   files = λ _.
-                      subst (λ g. EachReadsFiles g new.medium (λ files. files ≡ files_last.files)) (given.journal_geometry ∙ told_now.sizes)
-                      (served_files p.journal new.medium files_last.files (subst (λ g. AreTables g.fpages p.journal.tables) (sym mounted.journal_geometry) mounted.journal_right) given.journal_serves stands_for);
+                      subst (λ g. EachReadsFiles g new.medium (λ files. files ≡ files_last.files)) (given.journal_geo ∙ told_now.sizes)
+                      (served_files made.files.journal new.medium files_last.files (subst (λ g. AreTables g.fpages made.files.journal.tables) (sym mounted.journal_geometry) mounted.journal_right) given.journal_serves stands_for);
                   power = power_stays;
                   cut_armed = cut_stays;
                   fail_armed = fail_stays;
@@ -366,7 +365,7 @@ module _ (host : HostState) (old new : Device) (serves : HostServes host old) (u
               };
             }
 
-        pub mounts_done : (answer : Answer) → CountsBad s v p.journal new.medium answer → MountsTo h answer (taken runs found s v p e given) old new
+        pub mounts_done : (answer : Answer) → CountsBad made.blocks made.volume made.files.journal new.medium answer → MountsTo h answer (taken runs found made given) old new
         unfolding done_up
         mounts_done answer counts = record {
           next = done_up.next;

@@ -7,8 +7,7 @@ use Rattle.line_device.specs.Device.{Device, Restarted}
 use Rattle.line_device.specs.declared.line.Choice.{Choice}
 use Rattle.line_words.specs.declared.interruption.Interruption.{Interruption}
 use Rattle.line_words.specs.declared.interruption.Interruption.TheVariants.{Failed, PowerLost as Lost}
-use Rattle.pm_volume.specs.Object.{VolumeState}
-use Rattle.block_device.specs.Object.{BlocksState}
+use Rattle.recovery.specs.Calls.{IsMounted, LeavesDevice}
 use Rattle.recovery.specs.Findings.{first_finding, geometry_told}
 use Rattle.recovery.specs.Mounting.{Finds, IsOfLogs, mount_outcome}
 use Rattle.recovery.specs.declared.Mounted.{Mounted}
@@ -38,12 +37,8 @@ use Rattle.machine_host.proofs.BadLineLemmas.{found_bad}
 use Rattle.machine_host.proofs.CostLemmas.{opens-runs}
 use Rattle.machine_host.proofs.ReadingLemmas.{recovered_back}
 use Rattle.machine_model.proofs.RefusalLemmas.{fate_placed}
-use Rattle.machine_host.proofs.MountEffectLemmas.{Gives, IsMount}
 use Rattle.machine_host.proofs.RemountLemmas.{MountsTo, kept_unmounted, mounts_bad, mounts_done, mounts_stopped, never_wrong, serves_taken, serves_unmounted}
 use Rattle.machine_host.proofs.RestartLemmas.{keeps, serves_back, stands_back}
-use Rattle.nvm_base.specs.Stock.{Stock}
-use Rattle.nvm_model.specs.Storage.{Event}
-use Rattle.file_pages.specs.Object.{PagesState}
 use Rattle.line_words.specs.Words.{WritesBackOutside}
 use Rattle.machine_host.specs.Keeping.{is_refusal}
 use Rattle.machine_host.proofs.KeepLemmas.{keeps_done}
@@ -58,7 +53,7 @@ pub record MountAnswered (host after : HostState) (answer : Answer) (old new : D
   pub room : most_of answer ≤ 72
   pub serves : HostServes after new
 
-module _ (host : HostState) (old new : Device) (serves : HostServes host old) (unsettled : host.mode ≡ modes.Unsettled) (sound : IsSound old.medium) (x : IsMount old new) where
+module _ (host : HostState) (old new : Device) (serves : HostServes host old) (unsettled : host.mode ≡ modes.Unsettled) (sound : IsSound old.medium) (x : LeavesDevice old.medium new.medium) where
   abbrev in_mode : Mode → HostState
   in_mode mode = record { geometry = host.geometry; unit = host.unit; mode = mode; blocks = host.blocks; volume = host.volume; files = host.files }
 
@@ -66,16 +61,16 @@ module _ (host : HostState) (old new : Device) (serves : HostServes host old) (u
   on = serves.power ∙ ap is_powered unsettled
 
   -- it was done
-  pub mount_done : (s : BlocksState) (v : VolumeState) (p : PagesState) (e : Stock Event) (answer : Answer) → Runs mount_calls mount_persists went old.panel new.panel → first_finding old.medium ≡ None → Gives old new s v p e → CountsBad s v p.journal new.medium answer
-      → MountAnswered host (record { geometry = host.geometry; unit = host.unit; mode = modes.On; blocks = s; volume = v; files = just_mounted p e }) answer old new
-  mount_done s v p e answer runs found given counts = record {
-    step = λ h stands. mounts_done host old new serves unsettled sound x h stands runs found s v p e given answer counts;
+  pub mount_done : (made : Mounted) (answer : Answer) → Runs mount_calls mount_persists went old.panel new.panel → first_finding old.medium ≡ None → IsMounted old.medium new.medium made → CountsBad made.blocks made.volume made.files.journal new.medium answer
+      → MountAnswered host (record { geometry = host.geometry; unit = host.unit; mode = modes.On; blocks = made.blocks; volume = made.volume; files = just_mounted made.files made.events }) answer old new
+  mount_done made answer runs found given counts = record {
+    step = λ h stands. mounts_done host old new serves unsettled sound x h stands runs found made given answer counts;
     accepts = ap is_refusal counts.told;
     starts = runs.orders.starts;
     lines = x.outside;
     printable = subst IsPrintable (sym counts.told) tt;
     room = subst (λ a. most_of a ≤ 72) (sym counts.told) (omega arith);
-    serves = serves_taken host old new serves unsettled sound x runs found s v p e given;
+    serves = serves_taken host old new serves unsettled sound x runs found made given;
   }
 
   -- it was not, but had memory
@@ -223,7 +218,7 @@ module _ (now : HostState) (choice : Choice) (old mid new : Device) (start : Sta
   }
 
 -- By what the host answers where the mount was not done.
-module _ (now after : HostState) (old new : Device) (serves : HostServes now old) (unsettled : now.mode ≡ modes.Unsettled) (sound : IsSound old.medium) (x : IsMount old new) (f : MountFault)
+module _ (now after : HostState) (old new : Device) (serves : HostServes now old) (unsettled : now.mode ≡ modes.Unsettled) (sound : IsSound old.medium) (x : LeavesDevice old.medium new.medium) (f : MountFault)
     (finds : Finds {T = Mounted} (first_finding old.medium) (Err f)) (runs : Runs mount_calls mount_persists (mount_outcome {T = Mounted} (Err f)) old.panel new.panel) (is : after ≡ record now { mode = unmounted_mode f }) where
   refused_now : (f ≡ fault.Memory → ⊥) → MountAnswered now after (unmounted_answer f) old new
   refused_now other = subst (λ k. MountAnswered now k (unmounted_answer f) old new) (sym is) (mount_refused now old new serves unsettled sound x f other finds runs)
@@ -249,7 +244,7 @@ module _ (now after : HostState) (old new : Device) (serves : HostServes now old
       }
 
 module _ (now after : HostState) (choice : Choice) (old mid new : Device) (start : Start) (serves : HostServes now old) (off : now.mode ≡ modes.Off)
-    (left : Restarted choice old mid start) (sound_old : IsSound old.medium) (sound : IsSound mid.medium) (x : IsMount mid new) (f : MountFault)
+    (left : Restarted choice old mid start) (sound_old : IsSound old.medium) (sound : IsSound mid.medium) (x : LeavesDevice mid.medium new.medium) (f : MountFault)
     (finds : Finds {T = Mounted} (first_finding mid.medium) (Err f)) (runs : Runs mount_calls mount_persists (mount_outcome {T = Mounted} (Err f)) mid.panel new.panel) (is : after ≡ record now { mode = unmounted_mode f }) where
   pub restart_unmounted : {E : Type 0} (r : Result Reply E) → MatchResult r (λ reply. (f ≡ fault.Memory → ⊥) × (answer_of reply ≡ unmounted_answer f)) (λ _. f ≡ fault.Memory)
       → Responds (Restart choice) r now after old new

@@ -1,15 +1,14 @@
 -- What settling a host comes to.
-use Rattle.std.proofs.Common.{◌≡◌, ℕ, Bool, true, false, IsTrue, List, [], ◌∷◌, Some, None, Result, Ok, Err, MatchResult, refl, sym, ap, ap₂, subst, ◌∙◌, arith, ◌⊎◌, inl, inr, ◌/◌}
+use Rattle.std.proofs.Common.{◌≡◌, ℕ, Bool, true, false, IsTrue, List, [], ◌∷◌, Some, None, Result, Ok, Err, MatchResult, refl, sym, ap, ap₂, subst, ◌∙◌, arith}
 use Rattle.std.specs.Prelude.{OnOk, OnErr}
 use Rattle.std.proofs.lemmas.Bool.{false≢true}
-use Rattle.line_device.specs.Medium.{WritesBack, IsSound, Medium, Waits}
+use Rattle.line_device.specs.Medium.{WritesBack, IsSound, Waits}
 use Rattle.line_device.specs.Panel.{Panel, Runs, Start, after_disarm}
 use Rattle.line_device.specs.Panel.Outcome.{went}
 use Rattle.line_device.specs.Device.{Device, Restarted, Waited}
 use Rattle.line_device.specs.declared.line.Choice.TheVariants.{Lasts}
 use Rattle.word_log.specs.Mount.Finding.{bad_line}
-use Rattle.block_device.specs.Object.{BlocksState}
-use Rattle.pm_volume.specs.Object.{VolumeState}
+use Rattle.recovery.specs.Calls.{IsMounted, LeavesDevice}
 use Rattle.recovery.specs.Findings.{first_finding}
 use Rattle.nvm_base.specs.declared.units.LineNo.{LineNo}
 use Rattle.recovery.specs.Mounting.{Finds, mount_outcome}
@@ -29,14 +28,10 @@ use Rattle.machine_model.specs.Settling.{LeavesUnmounted, SettlesTo, disarmed}
 use Rattle.machine_host.proofs.BadLineLemmas.{found_bad}
 use Rattle.machine_host.proofs.ElsewhereLemmas.{serves_ordered}
 use Rattle.machine_host.proofs.ReadingLemmas.{recovered_back}
-use Rattle.machine_host.proofs.MountEffectLemmas.{Gives, IsMount}
 use Rattle.machine_host.proofs.RemountLemmas.{BroughtUp, done_up, kept_unmounted, serves_taken, serves_unmounted, stopped_up}
 use Rattle.machine_host.proofs.RestartLemmas.{keeps, serves_waited, stands_back}
 use Rattle.machine_host.proofs.StepLemmas.{stands_ordered}
 use Rattle.machine_host.proofs.WaitingLemmas.{waits-after}
-use Rattle.nvm_base.specs.Stock.{Stock}
-use Rattle.nvm_model.specs.Storage.{Event}
-use Rattle.file_pages.specs.Object.{PagesState}
 
 -- what was not armed is not armed later
 pub stays_off : (old new : Bool) → old ≡ false → (IsTrue new → IsTrue old) → new ≡ false
@@ -68,7 +63,7 @@ already h d host quiet stands =
 
 -- A mount of a device whose host has not mounted it, while nothing is armed.
 module _ (host : HostState) (old new : Device) (serves : HostServes host old) (unsettled : host.mode ≡ modes.Unsettled) (quiet : IsQuiet old.panel)
-    (sound : IsSound old.medium) (x : IsMount old new) (runs : Runs mount_calls mount_persists went old.panel new.panel) where
+    (sound : IsSound old.medium) (x : LeavesDevice old.medium new.medium) (runs : Runs mount_calls mount_persists went old.panel new.panel) where
   asks : Asks [] old.panel new.panel
   asks = asks_of_work old.panel new.panel quiet runs
 
@@ -84,12 +79,12 @@ module _ (host : HostState) (old new : Device) (serves : HostServes host old) (u
   }
 
   -- it was done
-  pub settled_taken : (after : HostState) (s : BlocksState) (v : VolumeState) (p : PagesState) (e : Stock Event) → first_finding old.medium ≡ None → Gives old new s v p e
-      → after ≡ record host { mode = modes.On; blocks = s; volume = v; files = just_mounted p e } → IsSettled host after old new
-  settled_taken after s v p e found given is =
+  pub settled_taken : (after : HostState) (made : Mounted) → first_finding old.medium ≡ None → IsMounted old.medium new.medium made
+      → after ≡ record host { mode = modes.On; blocks = made.blocks; volume = made.volume; files = just_mounted made.files made.events } → IsSettled host after old new
+  settled_taken after made found given is =
       subst (λ k. IsSettled host k old new) (sym is) (
         refl,
-        λ h stands. settled_up _ h stands (serves_taken host old new serves unsettled sound x runs found s v p e given) (done_up host old new serves unsettled sound x h stands runs found s v p e given),
+        λ h stands. settled_up _ h stands (serves_taken host old new serves unsettled sound x runs found made given) (done_up host old new serves unsettled sound x h stands runs found made given),
       )
 
   -- a line of metadata is bad

@@ -1,5 +1,5 @@
 -- What a host and its device stand for, after a call on the volume.
-use Rattle.std.proofs.Common.{◌≡◌, ◌≢◌, ◌==◌, ◌<◌, ◌≤◌, ℕ, Bool, true, false, IsTrue, Option, Some, None, option_map, option_and_then, is_none, Result, Ok, Err, OnOk, List, [], refl, sym, ap, subst, ◌∙◌, arith}
+use Rattle.std.proofs.Common.{◌≡◌, ◌≢◌, ◌<◌, ◌≤◌, ℕ, Bool, true, false, IsTrue, Option, Some, None, option_map, Result, Ok, Err, OnOk, List, [], refl, sym, ap, subst, ◌∙◌, arith}
 use Rattle.line_device.specs.Medium.{Medium}
 use Rattle.line_device.specs.Panel.{Runs}
 use Rattle.line_device.specs.Device.{Device}
@@ -7,9 +7,7 @@ use Rattle.line_words.specs.Told.{Told, Answers, OnRefused, OnWorked, is_done, o
 use Rattle.line_words.specs.Told.Told.{Starves}
 use Rattle.word_tables.specs.declared.geometry.Geometry.{Geometry}
 use Rattle.word_tables.specs.Layout.{meta_lines}
-use Rattle.nvm_model.specs.Blocks.{first_there}
-use Rattle.nvm_model.specs.Interrupted.{MaySync}
-use Rattle.nvm_model.specs.Page.{Page, first_bad_line, persist, presence_of}
+use Rattle.nvm_model.specs.Page.{Page, presence_of}
 use Rattle.nvm_model.specs.Storage.{Block}
 use Rattle.page_lines.specs.Turns.{WritesBackOthers}
 use Rattle.block_device.specs.Images.{AreReadable}
@@ -18,10 +16,13 @@ use Rattle.block_device.specs.Area.{IsBlockLine}
 use Rattle.block_device.proofs.ReadLemmas.{Stays}
 use Rattle.block_device.proofs.ImageLemmas.{each_reads-then}
 use Rattle.pm_volume.specs.Area.{IsOfVolume}
+use Rattle.pm_volume.specs.Calls.{ChangesVolume, SyncsVolume}
+use Rattle.pm_volume.specs.Costs.{lines_there_at}
 use Rattle.pm_volume.specs.Images.{EachReadsPages}
 use Rattle.pm_volume.specs.Object.{KeepsMarks, VolumeState, VolumeHolds, VolumeServes}
-use Rattle.pm_volume.specs.Refusals.{VolumeRefusal, metadata_refusal_if, physical_offset, physical_refusal, poisoned_at, refused_if, volume_says}
+use Rattle.pm_volume.specs.Refusals.{VolumeRefusal, metadata_refusal_if, volume_says}
 use Rattle.pm_volume.specs.Refusals.VolumeRefusal.{Range, Length, Address, Meta, Poison}
+use Rattle.pm_volume.specs.Synced.{MaySyncAt}
 use Rattle.pm_volume.specs.declared.fault.VolumeFault.{VolumeFault}
 use Rattle.pm_volume.specs.declared.fault.VolumeFault.TheVariants as fault
 use Rattle.pm_volume.proofs.StandingLemmas.{served_pages}
@@ -32,7 +33,6 @@ use Rattle.reply_text.specs.Answer.{Answer, IsPrintable}
 use Rattle.reply_text.specs.Answer.Answer.{Done}
 use Rattle.reply_text.specs.Room.{most_of}
 use Rattle.script_text.specs.Action.{Action}
-use Rattle.script_text.specs.Action.Action.{VPSync}
 use Rattle.machine_model.specs.declared.mode.Mode.{Mode}
 use Rattle.machine_model.specs.declared.mode.Mode.TheVariants.{On}
 use Rattle.machine_model.specs.Machine.{Machine}
@@ -46,7 +46,7 @@ use Rattle.machine_model.specs.Meaning.{metadata_refusal}
 use Rattle.machine_model.specs.OnVolume.{part_synced_at, persist_at, volume_answer}
 use Rattle.machine_host.specs.Responding.{Answered}
 use Rattle.machine_host.specs.Stands.{HostState, HostServes, AreMounted, Stands, Comes}
-use Rattle.machine_host.proofs.CallLemmas.{IsPart, comes_of_call, on_refused-then, printable_after, serves_of_call, short_told}
+use Rattle.machine_host.proofs.CallLemmas.{IsPart, comes_of_call, on_refused-then, printable_after, serves_of_call, short_told, worked-then}
 use Rattle.machine_host.proofs.ElsewhereLemmas.{first_not_volume, mounted-volume, volume_apart}
 use Rattle.machine_host.proofs.FilesAsideLemmas.{files_not_volume}
 use Rattle.machine_host.proofs.FilesLeftLemmas.{may_leave-same}
@@ -197,22 +197,54 @@ pub settled_ok : {T : Type 0} (s : VolumeState) (r : Result T VolumeFault) → s
 settled_ok s (Ok x) is = is
 settled_ok s (Err f) is = tt
 
--- a call on the volume, whichever, by its clauses
-pub volume_called : {D : Type 0} (state : D → Device) (host : HostState) (s : VolumeState) (r : Result (Unit {0}) VolumeFault) (may : List Page → List Page → Type 0) (calls persists : ℕ) (before after : D)
-    → OnRefused volume_says r ((s ≡ host.volume) × (after ≡ before))
-    → OnWorked volume_says r ((pages : List Page) → VolumeHolds host.volume (state before).medium pages → EachReadsPages host.volume.geo (state after).medium (may pages))
-    → WritesBackOthers (IsOfVolume host.volume.geo) (state before).medium (state after).medium → KeepsMarks host.volume.geo (state before).medium (state after).medium → (IsTrue s.settled → VolumeServes s (state after).medium)
-    → (s.geo ≡ host.volume.geo) × (s.settled ≡ is_done (outcome_by volume_says r)) → Runs calls persists (outcome_by volume_says r) (state before).panel (state after).panel
-    → VolumeCalled volume_says host s r may calls persists (state before) (state after)
-volume_called state host s r may calls persists before after untouched images outside marks serves object runs = record {
-  untouched = on_refused-then volume_says r (λ same. (same.0, ap state same.1)) untouched;
-  images = images;
-  outside = outside;
-  marks = marks;
-  serves = serves;
-  sizes = object.0;
-  settled = settled_ok s r object.1;
-  runs = runs;
+-- a call that changes the volume
+pub volume_called : {D : Type 0} (state : D → Device) (host : HostState) (s : VolumeState) (before after : D) (r : Result (Unit {0}) VolumeFault) (to : List Page → List Page) (may : List Page → List Page → Type 0) (calls persists : ℕ)
+    → ChangesVolume state host.volume s before after r to may calls persists → VolumeCalled volume_says host s r may calls persists (state before) (state after)
+volume_called state host s before after r to may calls persists said = record {
+  untouched = on_refused-then volume_says r (λ same. (same.0, ap state same.1)) said.untouched;
+  images = said.images;
+  outside = said.outside;
+  marks = said.metadata;
+  serves = said.serves;
+  sizes = said.object.0;
+  settled = settled_ok s r said.object.1;
+  runs = said.runs;
+}
+
+-- a fault that refuses leaves the volume settled
+refused_done : (f : VolumeFault) → refusal_of (volume_says f) ≢ None → is_done (outcome_by {T = Unit {0}} volume_says (Err f)) ≡ true
+refused_done fault.Range told = refl
+refused_done fault.Length told = refl
+refused_done fault.Address told = refl
+refused_done (fault.Meta line) told = refl
+refused_done (fault.Poison offset) told = refl
+refused_done fault.Device told = absurd (told refl)
+refused_done fault.PowerLost told = absurd (told refl)
+
+-- so a sync that is refused leaves it as it was
+pub same_volume : (v s : VolumeState) (P Q : Type 0) (r : Result (Unit {0}) VolumeFault) → s ≡ record v { settled = is_done (outcome_by volume_says r) } → v.settled ≡ true → (P → Q) → OnRefused volume_says r P
+    → OnRefused volume_says r ((s ≡ v) × Q)
+same_volume v s P Q (Ok x) is was then_ same = tt
+same_volume v s P Q (Err f) is was then_ same = λ told. (is ∙ ap (λ b. record v { settled = b }) (refused_done f told ∙ sym was), then_ (same told))
+
+-- the images of a sync, as the machine has them
+synced_images : (geo : Geometry) (n : Medium) (start : Option ℕ) (len : ℕ) (pages : List Page) → EachReadsPages geo n (MaySyncAt start len pages) → EachReadsPages geo n (LeavesVolume (part_synced_at start len) pages (persist_at start len pages))
+synced_images geo n None len pages each = each
+synced_images geo n (Some start) len pages each = each
+
+pub volume_synced : {D : Type 0} (state : D → Device) (host : HostState) (s : VolumeState) (before after : D) (r : Result (Unit {0}) VolumeFault) (why : List Page → Option VolumeRefusal) (start : Option ℕ) (len : ℕ) → host.volume.settled ≡ true
+    → SyncsVolume state host.volume s before after r why start len
+    → VolumeCalled volume_says host s r (λ pages. LeavesVolume (part_synced_at start len) pages (persist_at start len pages)) (lines_there_at host.volume.geo host.volume.present start len) (lines_there_at host.volume.geo host.volume.present start len)
+    (state before) (state after)
+volume_synced state host s before after r why start len was said = record {
+  untouched = same_volume host.volume s _ _ r said.object was (λ same. ap state same) said.untouched;
+  images = worked-then volume_says r (λ each pages holds. synced_images host.volume.geo (state after).medium start len pages (each pages holds)) said.images;
+  outside = said.outside;
+  marks = said.metadata;
+  serves = λ _. said.serves;
+  sizes = ap (λ k. k.geo) said.object;
+  settled = settled_ok s r (ap (λ k. k.settled) said.object);
+  runs = said.runs;
 }
 
 -- Of a host behind a reference: `host` is what is inside `now`, and `after` what the answer leaves.
@@ -296,82 +328,5 @@ module _ {E R : Type 0} (says : E → Told R) (answer_to : R → Answer) (part :
     serves = work_serves says answer_to part now host after s r calls persists old new inside state on serves action few kept call;
   }
 
--- a fault that refuses leaves the volume settled
-refused_done : (f : VolumeFault) → refusal_of (volume_says f) ≢ None → is_done (outcome_by {T = Unit {0}} volume_says (Err f)) ≡ true
-refused_done fault.Range told = refl
-refused_done fault.Length told = refl
-refused_done fault.Address told = refl
-refused_done (fault.Meta line) told = refl
-refused_done (fault.Poison offset) told = refl
-refused_done fault.Device told = absurd (told refl)
-refused_done fault.PowerLost told = absurd (told refl)
-
--- so a call that changes no more than that leaves it as it was
-pub same_volume : (Q : Type 0) (v s : VolumeState) (r : Result (Unit {0}) VolumeFault) → s ≡ record v { settled = is_done (outcome_by volume_says r) } → v.settled ≡ true → OnRefused volume_says r Q
-    → OnRefused volume_says r ((s ≡ v) × Q)
-same_volume Q v s (Ok x) is was q = tt
-same_volume Q v s (Err f) is was q = λ told. (is ∙ ap (λ b. record v { settled = b }) (refused_done f told ∙ sym was), q told)
-
 pub settled_was : (now host : HostState) (old : Device) → host ≡ now → now.mode ≡ On → HostServes now old → host.volume.settled ≡ true
 settled_was now host old inside on serves = ap (λ k. k.volume.settled) inside ∙ (serves.mounted on).volume_settled
-
--- a span of addresses that lies in no range is refused
-unplaced : (s : VolumeState) (pages : List Page) (address len : ℕ) → physical_offset s.geo address len ≡ None → (w : VolumeRefusal) × (physical_refusal s pages address len ≡ Some w)
-unplaced s pages address len none = first_of (refused_if (len == 0) Length) (ap whole none)
-  where
-    whole : Option ℕ → Option VolumeRefusal
-    whole o = first_there (first_there (refused_if (len == 0) Length) (refused_if (is_none o) Address)) (option_and_then (λ offset. poisoned_at (first_bad_line pages offset len)) o)
-
-    first_of : (o : Option VolumeRefusal) → physical_refusal s pages address len ≡ first_there (first_there o (Some Address)) None → (w : VolumeRefusal) × (physical_refusal s pages address len ≡ Some w)
-    first_of None is = (Address, is)
-    first_of (Some w) is = (w, is)
-
-never_worked : {T : Type 0} (P : Type 0) (r : Result T VolumeFault) (why : Option VolumeRefusal) (w : VolumeRefusal) → why ≡ Some w → Answers volume_says why r → OnWorked volume_says r P
-never_worked P (Ok x) None w is answers = cc is
-never_worked P (Ok x) (Some v) w is answers = absurd answers
-never_worked P (Err f) None w is answers = cc is
-never_worked P (Err f) (Some v) w is answers = λ stop. cc (stop, answers)
-
-module _ (s t : VolumeState) (address len : ℕ) (m n : Medium) (r : Result (Unit {0}) VolumeFault)
-    (refused : (pages : List Page) → VolumeHolds s m pages → Answers volume_says (physical_refusal s pages address len) r) where
-  -- what a sync by addresses may leave, by its offset
-  pub physical_images : OnWorked volume_says r ((offset : ℕ) (pages : List Page) → physical_offset s.geo address len ≡ Some offset → VolumeHolds s m pages → EachReadsPages s.geo n (MaySync offset len pages))
-      → OnWorked volume_says r ((pages : List Page) → VolumeHolds s m pages → EachReadsPages s.geo n (MayLeaveVolume s.geo (Some (VPSync address len)) pages))
-  physical_images = by_result r refused
-    where
-      by_offset : (o : Option ℕ) (pages : List Page) → physical_offset s.geo address len ≡ o → ((offset : ℕ) → o ≡ Some offset → EachReadsPages s.geo n (MaySync offset len pages)) → (o ≡ None → ⊥)
-          → EachReadsPages s.geo n (LeavesVolume (part_synced_at o len) pages (persist_at o len pages))
-      by_offset None pages is each never = absurd (never refl)
-      by_offset (Some offset) pages is each never = each offset refl
-
-      images_of : (pages : List Page) → ((offset : ℕ) → physical_offset s.geo address len ≡ Some offset → EachReadsPages s.geo n (MaySync offset len pages)) → (physical_offset s.geo address len ≡ None → ⊥)
-          → EachReadsPages s.geo n (MayLeaveVolume s.geo (Some (VPSync address len)) pages)
-      images_of pages each never = by_offset (physical_offset s.geo address len) pages refl each never
-
-      by_result : (r : Result (Unit {0}) VolumeFault) → ((pages : List Page) → VolumeHolds s m pages → Answers volume_says (physical_refusal s pages address len) r)
-          → OnWorked volume_says r ((offset : ℕ) (pages : List Page) → physical_offset s.geo address len ≡ Some offset → VolumeHolds s m pages → EachReadsPages s.geo n (MaySync offset len pages))
-          → OnWorked volume_says r ((pages : List Page) → VolumeHolds s m pages → EachReadsPages s.geo n (MayLeaveVolume s.geo (Some (VPSync address len)) pages))
-      by_result (Ok x) refused each = λ pages holds.
-          images_of pages (λ offset is. each offset pages is holds)
-          (λ none. let w = unplaced s pages address len none in never_worked ⊥ (Ok x) _ w.0 w.1 (refused pages holds))
-      by_result (Err f) refused each = λ stop pages holds.
-          images_of pages (λ offset is. each stop offset pages is holds)
-          (λ none. let w = unplaced s pages address len none in never_worked {T = Unit {0}} ⊥ (Err f) _ w.0 w.1 (refused pages holds) stop)
-
-  -- and what it comes to
-  pub physical_ok : (pages : List Page) → VolumeHolds s m pages
-      → OnOk r ((offset : ℕ) (pages : List Page) → physical_offset s.geo address len ≡ Some offset → VolumeHolds s m pages → VolumeHolds t n (persist offset len pages))
-      → OnOk r (VolumeHolds t n (persist_at (physical_offset s.geo address len) len pages))
-  physical_ok pages holds = by_result r (refused pages holds)
-    where
-      by_offset : (o : Option ℕ) → ((offset : ℕ) → o ≡ Some offset → VolumeHolds t n (persist offset len pages)) → (o ≡ None → ⊥) → VolumeHolds t n (persist_at o len pages)
-      by_offset None done never = absurd (never refl)
-      by_offset (Some offset) done never = done offset refl
-
-      by_result : (r : Result (Unit {0}) VolumeFault) → Answers volume_says (physical_refusal s pages address len) r
-          → OnOk r ((offset : ℕ) (pages : List Page) → physical_offset s.geo address len ≡ Some offset → VolumeHolds s m pages → VolumeHolds t n (persist offset len pages))
-          → OnOk r (VolumeHolds t n (persist_at (physical_offset s.geo address len) len pages))
-      by_result (Ok x) answers done =
-          by_offset (physical_offset s.geo address len) (λ offset is. done offset pages is holds)
-          (λ none. let w = unplaced s pages address len none in never_worked ⊥ (Ok x) _ w.0 w.1 answers)
-      by_result (Err f) answers done = tt

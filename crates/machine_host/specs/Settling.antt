@@ -1,5 +1,5 @@
 -- Bringing host and device to rest, so that the device can be read: what it comes to, and what it asks of the device.
-use Rattle.std.specs.Prelude.{◌≡◌, ◌+◌, ◌≤◌, Bool, true, false, List, [], ◌∷◌, length, Result, Ok, Err}
+use Rattle.std.specs.Prelude.{◌≡◌, ◌+◌, ◌≤◌, Bool, true, false, List, [], length, Result, Ok, Err}
 use Rattle.line_device.specs.Panel.{Panel, Start, told}
 use Rattle.line_device.specs.Device.{Device}
 use Rattle.machine_model.specs.declared.mode.Mode.{Mode}

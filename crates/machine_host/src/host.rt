@@ -88,6 +88,7 @@ impl Host {
     ghost use Rattle.block_device.specs.Reading.{blocks_read};
     ghost use Rattle.block_device.specs.Object.{blocks_of};
     ghost use Rattle.block_device.specs.Images.{KeepsReads};
+    ghost use Rattle.recovery.specs.Calls.{LeavesDevice};
     ghost use Rattle.recovery.specs.Findings.{geometry_told, early_finding, first_finding};
     ghost use Rattle.recovery.specs.Mounting.{Finds, IsOfLogs, mount_outcome};
     ghost use Rattle.machine_model.specs.Machine.{Machine, bad_of};
@@ -120,14 +121,7 @@ impl Host {
             × (host.volume.present ≡ presence_read (geometry_told (D.state device.old).medium) (last_image (D.state device.old).medium))
             × (host.files.pages.journal.tables ≡ tables_read (geometry_told (D.state device.old).medium) (last_image (D.state device.old).medium))) }
         ensures finds { Finds (first_finding (D.state device.old).medium) result }
-        ensures lines { WritesBackOutside (IsOfLogs (geometry_told (D.state device.old).medium))
-            (D.state device.old).medium (D.state device.new).medium }
-        ensures reads { early_finding (D.state device.old).medium ≡ None
-            → KeepsReads (geometry_told (D.state device.old).medium) (D.state device.old).medium (D.state device.new).medium }
-        ensures presence { EachImage (volume_area (geometry_told (D.state device.old).medium)) (D.state device.new).medium
-            (IsReached (volume_area (geometry_told (D.state device.old).medium)) (D.state device.old).medium) }
-        ensures files { EachImage (file_area (geometry_told (D.state device.old).medium)) (D.state device.new).medium
-            (IsReached (file_area (geometry_told (D.state device.old).medium)) (D.state device.old).medium) }
+        ensures leaves { LeavesDevice (D.state device.old).medium (D.state device.new).medium }
         ensures metadata { IfOk result (λ host. MetadataStands host.geometry (D.state device.new).medium []) }
         ensures serves { IfOk result (λ host. HostServes host (D.state device.new)) }
 

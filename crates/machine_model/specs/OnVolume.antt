@@ -5,6 +5,7 @@ use Rattle.word_log.specs.Changes.{commit_calls, commit_persists}
 use Rattle.nvm_model.specs.Page.{Page, discard, fill, first_bad_line, first_uncovered_line, look, persist, presence_of, put, touches_absent}
 use Rattle.pm_volume.specs.Area.{volume_ranges}
 use Rattle.pm_volume.specs.Costs.{lines_there, lines_there_at, lines_touched, store_calls, store_persists}
+pub use Rattle.pm_volume.specs.Synced.{persist_at}
 use Rattle.pm_volume.specs.Refusals.{VolumeRefusal, address_refusal, bytes_refusal, extent_refusal, physical_offset, poisoned_at}
 use Rattle.pm_volume.specs.Refusals.VolumeRefusal.{Range, Length, Address, Meta, Poison}
 use Rattle.reply_text.specs.declared.reply.Why.{Why}
@@ -64,12 +65,7 @@ vsync offset len = record (changing_volume (λ geo. persist offset len) (λ geo.
   spends = λ h. lines_persisted (lines_there h.geometry (presence_of h.volume) offset len);
 }
 
--- what is made durable of a span of the volume, where there is one
-abbrev pub persist_at : Option ℕ → ℕ → List Page → List Page
-persist_at None len pages = pages
-persist_at (Some offset) len pages = persist offset len pages
-
--- and what an interruption leaves of it
+-- what an interruption leaves of a sync of a span, which may have no place in the volume
 abbrev pub part_synced_at : Option ℕ → ℕ → VolumeLeft
 part_synced_at None len = PartSynced 0 0
 part_synced_at (Some offset) len = PartSynced offset len

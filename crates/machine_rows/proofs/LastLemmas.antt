@@ -1,5 +1,5 @@
 -- A test of all words of pages: a restart may leave their last values.
-use Rattle.std.proofs.Common.{◌≡◌, ◌+◌, ◌*◌, ◌/◌, ◌%◌, ◌==◌, ◌&&◌, ℕ, zero, suc, Bool, true, false, not, inl, inr, Option, Some, None, option_and_then, List, [], ◌∷◌, slice_get, refl, sym, ap, subst, ◌∙◌, arith}
+use Rattle.std.proofs.Common.{◌≡◌, ◌+◌, ◌*◌, ◌/◌, ◌%◌, ◌==◌, ◌&&◌, ℕ, zero, suc, Bool, true, false, not, Option, Some, None, option_and_then, List, [], ◌∷◌, slice_get, refl, sym, ap, subst, ◌∙◌, arith}
 use Rattle.std.proofs.lemmas.Bool.{eqb-true, not-true, and_parts}
 use Rattle.line_device.specs.History.{newest, IsIn}
 use Rattle.line_device.specs.Panel.{Image}
@@ -9,6 +9,7 @@ use Rattle.nvm_model.specs.Cell.{Cell, MaySurvive, KeepsCell}
 use Rattle.nvm_model.specs.Cell.Cell.{Bad, Kept}
 use Rattle.nvm_model.specs.Page.{Page, cell_in, KeepsPages}
 use Rattle.nvm_model.specs.Page.Page.{Absent, Present}
+use Rattle.line_device.proofs.HistoryLemmas.{is_in-newest as newest-in}
 
 -- each item passes a test that is told its number
 abbrev pub all_from : {A : Type 0} → (ℕ → A → Bool) → ℕ → List A → Bool
@@ -43,10 +44,6 @@ page_last place image i (Present cells) = all_from (λ n. cell_last image (place
 
 abbrev pub pages_last : (ℕ → ℕ) → Image → List Page → Bool
 pages_last place image pages = all_from (page_last place image) 0 pages
-
-newest-in : (x : ℕ) (xs : List ℕ) → IsIn (newest (x ∷ xs)) (x ∷ xs)
-newest-in x [] = inl refl
-newest-in x (y ∷ ys) = inr (newest-in y ys)
 
 word_kept : (choice : Choice) (image : Image) (p : ℕ) (history : List ℕ) → word_last image p history ≡ true → MaySurvive image.unit choice history (image.word p)
 word_kept choice image p [] e = cc

@@ -12,8 +12,7 @@ ghost use Rattle.marked_lines.specs.Counting.{cell_has, marked_in_inode, marked_
 use crate::{Mark, count_among};
 use file_journal::Journal;
 use line_device::Lines;
-use nvm_base::{LINE, PAGE};
-use page_table::INODES;
+use nvm_base::{INODES, LINE, PAGE};
 
 /// How many lines of the files' pages that exist are bad: a hole has none.
 pub fn bad_in_files<L: Lines>(dev: &L, journal: &Journal) -> u64

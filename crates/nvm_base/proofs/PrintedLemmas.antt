@@ -25,7 +25,7 @@ unfolding AreProper
 runs_in-proper [] small = tt
 runs_in-proper (byte ∷ bytes) small = onto-proper byte (runs_in bytes) (small 0) (runs_in-proper bytes (λ k. small (suc k)))
 
-byte_count-onto : (byte : ℕ) (rs : List ByteRun) → byte_count (onto byte rs) ≡ byte_count rs + 1
+pub byte_count-onto : (byte : ℕ) (rs : List ByteRun) → byte_count (onto byte rs) ≡ byte_count rs + 1
 byte_count-onto byte [] = refl
 byte_count-onto byte (r ∷ rs) = go (byte == r.byte) refl
   where

@@ -7,6 +7,7 @@ use Rattle.std.proofs.lemmas.Fmt.{decimal_digit, length-decimal-le_succ}
 use Rattle.std.specs.Fmt.{digits, digits_onto, digit_glyph}
 use Rattle.std.specs.List.{join_with_byte}
 use Rattle.nvm_base.specs.Data.{ByteRun, byte_count, onto, runs_in, run_text, data_text}
+use Rattle.nvm_base.proofs.PrintedLemmas.{byte_count-onto}
 
 -- the runs do not begin with that byte
 abbrev pub Apart : ℕ → List ByteRun → Type 0
@@ -97,14 +98,6 @@ Counted-runs_in : (bytes : List ℕ) → Counted (runs_in bytes)
 unfolding Counted
 Counted-runs_in [] = tt
 Counted-runs_in (b ∷ bytes) = Counted-onto b (runs_in bytes) (Counted-runs_in bytes)
-
-byte_count-onto : (byte : ℕ) (rs : List ByteRun) → byte_count (onto byte rs) ≡ byte_count rs + 1
-byte_count-onto byte [] = refl
-byte_count-onto byte (r ∷ rs) = go (byte == r.byte) refl
-  where
-    go : (b : Bool) → (byte == r.byte) ≡ b → byte_count (onto byte (r ∷ rs)) ≡ byte_count (r ∷ rs) + 1
-    go true e = rw (e, onto) (omega arith)
-    go false e = rw (e, onto) (omega arith)
 
 byte_count-runs_in : (bytes : List ℕ) → byte_count (runs_in bytes) ≡ length bytes
 byte_count-runs_in [] = refl

@@ -8,7 +8,7 @@ use Rattle.std.proofs.lemmas.List.Splits.{slice_split-cons_yes, slice_split-cons
 abbrev pub has_none : (ℕ → Bool) → List ℕ → Bool
 has_none p text = list_all (λ c. not (p c)) text
 
-fails : (b : Bool) → not b ≡ true → b ≡ false
+pub fails : (b : Bool) → not b ≡ true → b ≡ false
 fails false e = refl
 fails true e = absurd (cc)
 

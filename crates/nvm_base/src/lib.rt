@@ -22,5 +22,6 @@ pub use printing::print_bytes;
 pub use reading::{TextFault, read_bytes};
 pub use spelling::spellings;
 pub use units::{
-    BLOCK, LINE, LineNo, MOST, PAGE, Span, WORD, blocks_of, lines_of, overlaps, pages_of,
+    BLOCK, INODES, LINE, LineNo, MOST, MOST_READ, MOST_SPANS, PAGE, PAGE_LINES, Span, WORD,
+    blocks_of, lines_of, overlaps, pages_of,
 };

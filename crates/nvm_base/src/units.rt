@@ -14,8 +14,20 @@ pub const BLOCK: u64 = 512;
 /// Bytes of a page.
 pub const PAGE: u64 = 4096;
 
+/// Lines of a page.
+pub const PAGE_LINES: u64 = PAGE / LINE;
+
+/// The most spans that one command names.
+pub const MOST_SPANS: usize = 8;
+
 /// The most bytes that one command reads or writes, and the most bytes of a script's line.
 pub const MOST: u64 = 65536;
+
+/// The most blocks that one command reads.
+pub const MOST_READ: u64 = MOST / BLOCK;
+
+/// Inodes, and so the most files.
+pub const INODES: u64 = 64;
 
 /// A line of a device, counted from 0.
 #[derive(Clone, Copy, Debug, PartialEq, Eq, PartialOrd, Ord)]

@@ -125,7 +125,7 @@ cell_stands-beside_weak m b n i (Kept weak words) out x stands = (
       (word_write_back-strong (m.is_weak ((8 * i + w) / 8)) _ _ (x.write_back.word_write_back (8 * i + w))),
 )
 
-changed_from : (f : Cell → Cell) (o : Option Cell) (y : Cell) → option_map f o ≡ Some y → (x : Cell) × (o ≡ Some x) × (f x ≡ y)
+pub changed_from : (f : Cell → Cell) (o : Option Cell) (y : Cell) → option_map f o ≡ Some y → (x : Cell) × (o ≡ Some x) × (f x ≡ y)
 changed_from f None y e = cc
 changed_from f (Some x) y e = (x, refl, cc)
 

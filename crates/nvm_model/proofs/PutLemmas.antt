@@ -15,7 +15,7 @@ use Rattle.nvm_model.specs.Page.{Page, cell_of, put, byte_in}
 use Rattle.nvm_model.proofs.NumberedLemmas.{slice_get-map_from}
 use Rattle.nvm_model.proofs.PageLemmas.{cell_of-put}
 
-byte_at-small : (k n : ℕ) → byte_at k n < 256
+pub byte_at-small : (k n : ℕ) → byte_at k n < 256
 byte_at-small zero n = omega arith
 byte_at-small (suc k) n = omega arith
 

@@ -31,7 +31,7 @@ word_write_back-word_stored at p bytes a b f = by_test (reaches at (length bytes
     by_test false = f
 
 -- an item that was changed, from the one that it was
-changed_from : {A B : Type 0} (f : A → B) (o : Option A) (y : B) → option_map f o ≡ Some y → (x : A) × (o ≡ Some x) × (y ≡ f x)
+pub changed_from : {A B : Type 0} (f : A → B) (o : Option A) (y : B) → option_map f o ≡ Some y → (x : A) × (o ≡ Some x) × (y ≡ f x)
 changed_from f None y e = cc
 changed_from f (Some x) y e = (x, refl, cc)
 

@@ -11,6 +11,7 @@ use Rattle.nvm_model.specs.Numbered.{list_from}
 use Rattle.explorer.proofs.Durable.RewrittenLemmas.{byte_rewritten, rewritten-small}
 use Rattle.explorer.proofs.Outcomes.HistoryLemmas.{Keeps}
 use Rattle.outcome_lists.proofs.PairLemmas.{all_joined}
+use Rattle.nvm_model.proofs.PutLemmas.{byte_at-small as byte_below}
 
 -- numbers of 64 bits, and bytes
 abbrev pub Are64 : List ℕ → Type 0
@@ -40,11 +41,6 @@ laid_below : (byte : ℕ → ℕ) (n count k : ℕ) → ((i : ℕ) → byte i < 
 laid_below byte n zero k small = omega arith
 laid_below byte n (suc count) zero small = small n
 laid_below byte n (suc count) (suc k) small = laid_below byte (suc n) count k small
-
--- a word that bytes are put over
-byte_below : (k n : ℕ) → byte_at k n < 256
-byte_below zero n = omega arith
-byte_below (suc k) n = omega arith
 
 over_below : (at i old : ℕ) (bytes : List ℕ) → AreSmall bytes → old < 256 → byte_over at bytes i old < 256
 unfolding byte_over

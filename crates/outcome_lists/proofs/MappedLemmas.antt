@@ -1,6 +1,7 @@
 -- Lists that are mapped, item by item.
 use Rattle.std.proofs.Common.{◌≡◌, ◌+◌, ◌<◌, ℕ, zero, suc, List, [], ◌∷◌, ◌++◌, drop, get_or, length, map, take, refl, sym, ap, ap₂, ◌∙◌, arith}
 use Rattle.std.proofs.lemmas.List.{map-append}
+pub use Rattle.outcome_walk.proofs.WalkLemmas.{suc_is}
 
 -- the first ones, and those behind them
 pub map_take : {A B : Type 0} (f : A → B) (n : ℕ) (xs : List A) → map f (take n xs) ≡ take n (map f xs)
@@ -12,10 +13,6 @@ pub map_drop : {A B : Type 0} (f : A → B) (n : ℕ) (xs : List A) → map f (d
 map_drop f zero xs = refl
 map_drop f (suc n) [] = refl
 map_drop f (suc n) (x ∷ xs) = map_drop f n xs
-
--- a number has a next one
-pub suc_is : (n : ℕ) → suc n ≡ n + 1
-suc_is n = omega arith
 
 -- one item more of a list that is mapped
 pub mapped_next : {A B : Type 0} (f : A → B) (xs : List A) (i : ℕ) (x : A) → i < length xs → x ≡ get_or xs i x → map f (take (i + 1) xs) ≡ map f (take i xs) ++ f x ∷ []

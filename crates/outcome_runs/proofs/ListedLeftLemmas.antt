@@ -2,7 +2,6 @@
 use Rattle.std.proofs.Common.{◌≡◌, inl, inr, ℕ, ◌+◌, ◌≤◌, Bool, true, false, cond, Option, Some, None, List, [], ◌∷◌, length, refl, sym, ap, subst, ◌∙◌, if◌then◌else◌, arith}
 use Rattle.std.specs.Bool.{Decides}
 use Rattle.std.proofs.lemmas.Bool.{both_ways}
-use Rattle.std.proofs.lemmas.List.{length-map}
 use Rattle.std.proofs.lemmas.Slice.Eq.{bytes_eq-Decides}
 use Rattle.nvm_base.specs.declared.units.Span.{Span}
 use Rattle.word_tables.specs.declared.geometry.Geometry.{Geometry}
@@ -10,7 +9,7 @@ use Rattle.nvm_model.specs.Files.{FileLeft, OneFileLeft, on_pages}
 use Rattle.nvm_model.specs.Interrupted.{MayStore, MaySyncAll}
 use Rattle.nvm_model.specs.Listing.{change_file, file_name, is_named}
 use Rattle.nvm_model.specs.Mappings.{is_shared, mapping_of}
-use Rattle.nvm_model.specs.Page.{Page, fill, is_present, presence_of, put}
+use Rattle.nvm_model.specs.Page.{Page, fill, put}
 use Rattle.nvm_model.specs.Storage.{File, Mapping}
 use Rattle.nvm_model.proofs.PageLemmas.{length-fill, presence_of-put}
 use Rattle.script_text.specs.Action.{Action}
@@ -30,10 +29,7 @@ use Rattle.outcome_runs.proofs.CountLemmas.{all_used, marked, used}
 use Rattle.outcome_runs.proofs.ListedLemmas.{listed_alike, listed_fewer, used_room}
 use Rattle.outcome_runs.proofs.PageUseLemmas.{used_fill}
 use Rattle.outcome_runs.proofs.ListedStepLemmas.{listed_made}
-
--- what may be left of one file that was stored to in part, or made durable in part
-same_size : (old new : List Page) → presence_of new ≡ presence_of old → length new ≡ length old
-same_size old new there = sym (length-map new is_present) ∙ ap length there ∙ length-map old is_present
+use Rattle.durable.proofs.WholeLemmas.{pages-there as same_size}
 
 stored_size : (at : ℕ) (bytes : List ℕ) (a b : List Page) → MayStore at bytes a b → length b ≡ length a
 stored_size at bytes a b (inl is) = ap length is

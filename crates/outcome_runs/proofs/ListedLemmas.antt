@@ -1,5 +1,5 @@
 -- Files listed in order, of which one is changed, put, taken out or renamed.
-use Rattle.std.proofs.Common.{◌≡◌, ℕ, suc, ◌+◌, ◌≤◌, Bool, true, false, cond, ◌&&◌, Option, Some, None, List, [], ◌∷◌, length, refl, sym, ap, ap₂, ◌∙◌, arith}
+use Rattle.std.proofs.Common.{◌≡◌, ℕ, suc, ◌+◌, ◌≤◌, Bool, true, false, cond, ◌&&◌, Some, List, [], ◌∷◌, length, refl, sym, ap, ap₂, ◌∙◌, arith}
 use Rattle.std.specs.Bool.{Decides}
 use Rattle.std.specs.List.{list_all}
 use Rattle.std.proofs.lemmas.Bool.{and_parts, both_ways, or_from}
@@ -16,6 +16,7 @@ use Rattle.nvm_model.proofs.OrderLemmas.{before-itself}
 use Rattle.machine_model.specs.OnPages.{pages_named}
 use Rattle.outcome_runs.specs.Kept.{AreListed, HaveNames}
 use Rattle.outcome_runs.proofs.CountLemmas.{all_used, room_used, used}
+use Rattle.durable.proofs.NamedPageLemmas.{pages_in}
 
 -- by how many pages are there
 pub listed_by : (geo : Geometry) (files : List File) → length files ≤ 64 → HaveNames files → rises file_name files ≡ true → all_used files ≤ geo.fpages → AreListed geo files
@@ -78,9 +79,6 @@ none_after name first (file ∷ files) is after =
     let parts = and_parts (is_before first.name file.name) _ after in
     let apart : file.name ≡ name → ⊥ = λ same. both_ways (is_before first.name file.name) (ap (is_before first.name) (same ∙ sym is) ∙ before-itself first.name) parts.0 in
     or_from (is_named file_name name file) (has_file file_name name files) (named-not file_name name file apart) (none_after name first files is parts.1)
-
-abbrev pages_in : Option File → List Page
-pages_in o = elim o [ None ↦ [] | Some file ↦ file.pages ]
 
 pub used_one : (name : List ℕ) (g : List Page → List Page) (files : List File) → rises file_name files ≡ true
     → all_used (change_file file_name name (on_pages g) files) + used (pages_named name files) ≤ all_used files + used (g (pages_named name files))

@@ -27,6 +27,7 @@ use Rattle.outcomes.proofs.StopLemmas.{on_cut, ready_at}
 use Rattle.outcome_runs.specs.Brings.{BringRight}
 use Rattle.outcome_runs.specs.Kept.{IsKept}
 use Rattle.outcome_runs.proofs.KeptLemmas.{MakesKept, MayMake, kept_step, makes_kept}
+use Rattle.durable.proofs.UnsyncedLemmas.{off as without_power}
 
 -- a state in which a program goes on, while the power may go
 pub record GoesOn (h : Machine) : Type 0 where
@@ -58,9 +59,6 @@ done_heard : (h : Machine) (action : Action) (f : Fate) (said : Transcript) (nex
 done_heard h action f said next done comes took =
     subst (λ (o : Option Answer). Takes h action (unless_refused h o ((meaning action).comes h)) said next) (sym done)
     (subst (λ (to : Fate). Takes h action to said next) (sym comes) took)
-
-abbrev without_power : Machine → Machine
-without_power h = record h { mode = Off; cut_armed = false; fail_armed = false }
 
 off_cut : (h : Machine) → h.mode ≡ Off → refusal h Cut ≡ Some (Refused because.Off)
 unfolding refusal

@@ -28,6 +28,7 @@ use Rattle.outcomes.specs.Seen.Seen.{of_volume, of_file}
 use Rattle.state_images.specs.Keeping.{FilesSurvive as FilesKept}
 use Rattle.state_images.specs.Shapes.{AreFilesWhole}
 use Rattle.outcome_runs.proofs.TrimLemmas.{first_bad-trim, length-trim, look-trim, trim, trim_survives, trim_whole}
+use Rattle.durable.proofs.NamedPageLemmas.{pages_in}
 
 -- two states that refuse a read alike, and give the same bytes
 same_shown : (g other : Machine) (seen : Seen) → refusal other (command seen) ≡ refusal g (command seen) → bytes_seen other seen ≡ bytes_seen g seen → Shown g seen → Shown other seen
@@ -54,9 +55,6 @@ trim_files files = map (on_pages trim) files
 trim_has : (name : List ℕ) (files : List File) → has_file file_name name (trim_files files) ≡ has_file file_name name files
 trim_has name [] = refl
 trim_has name (x ∷ files) = ap (λ b. bytes_eq x.name name || b) (trim_has name files)
-
-abbrev pages_in : Option File → List Page
-pages_in o = elim o [ None ↦ [] | Some file ↦ file.pages ]
 
 named_trimmed : (name : List ℕ) (files : List File) → pages_named name (trim_files files) ≡ trim (pages_named name files)
 named_trimmed name [] = refl

@@ -4,7 +4,7 @@ use Rattle.std.proofs.lemmas.List.{map-append, take_more}
 use Rattle.outcome_walk.specs.declared.level.Rows.{Rows}
 use Rattle.outcome_walk.specs.Walking.{both}
 
-suc_is : (n : ℕ) → suc n ≡ n + 1
+pub suc_is : (n : ℕ) → suc n ≡ n + 1
 suc_is n = omega arith
 
 -- the item that is next

@@ -23,7 +23,7 @@ use Rattle.machine_model.specs.Commands.{LeavesFiles, MayLeaveFiles, meaning}
 use Rattle.machine_model.specs.Meaning.{FilesLeft}
 use Rattle.machine_model.specs.Meaning.FilesLeft.{Unchanged, OldOrNew, StoredInPart, SyncedInPart}
 use Rattle.machine_model.specs.OnPages.{pages_named}
-use Rattle.durable.proofs.NamedPageLemmas.{named-change, named-own}
+use Rattle.durable.proofs.NamedPageLemmas.{named-change, named-own, pages_in}
 use Rattle.outcomes.specs.Files.{FileRead, all_but, each_file, file_fits, files_fit, is_file_reply, reads_of}
 use Rattle.outcomes.specs.Left.{files_may_pass, files_pass, stored_file, synced_file}
 use Rattle.outcomes.specs.Outcome.{AllHaveValues, FilesSurvive, HaveValues, MadeHaveValues}
@@ -34,10 +34,6 @@ use Rattle.outcomes.proofs.ChooseLemmas.{either, keep, keep_fits, keep_has, keep
 use Rattle.outcomes.proofs.FileLemmas.{replies_at}
 use Rattle.outcomes.proofs.PickLemmas.{pages_survive, picked_none, picked_pages, picked_size}
 use Rattle.outcomes.proofs.ValueLemmas.{all_map, fill_have, flushed_has, put_has}
-
--- the pages of the file of a name in a list that begins with this one
-abbrev pages_in : Option File → List Page
-pages_in o = elim o [ None ↦ [] | Some file ↦ file.pages ]
 
 -- a file of which some reads tell, once a restart kept one value of each word
 module _ (reads : List FileRead) where

@@ -4,7 +4,7 @@ use Rattle.nvm_base.specs.Units.{units_of}
 use Rattle.nvm_base.specs.declared.units.Span.{Span}
 use Rattle.page_lines.specs.Placed.{one_there, there_among, there_in}
 
-one_at_most : (o : Option ℕ) → one_there o ≤ 1
+pub one_at_most : (o : Option ℕ) → one_there o ≤ 1
 one_at_most None = omega arith
 one_at_most (Some line) = omega arith
 

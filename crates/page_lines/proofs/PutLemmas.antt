@@ -1,5 +1,5 @@
 -- Bytes put into one line, in part and whole.
-use Rattle.std.proofs.Common.{◌≡◌, ◌⊎◌, ◌≤◌, ℕ, ◌+◌, ◌-◌, ◌*◌, ◌/◌, ◌%◌, ◌<◌, min, max, Bool, true, false, cond, Option, Some, Result, Ok, Err, MatchResult, OnOk, OnErr, List, [], ◌∷◌, length, replicate, option_map, None, slice_get, get_or, refl, sym, ap, subst, ◌∙◌, inl, inr, arith}
+use Rattle.std.proofs.Common.{◌≡◌, ◌⊎◌, ◌≤◌, ℕ, ◌+◌, ◌-◌, ◌*◌, ◌/◌, ◌%◌, ◌<◌, min, max, Bool, true, false, cond, Option, Some, Result, Ok, Err, MatchResult, OnOk, OnErr, List, [], ◌∷◌, length, replicate, slice_get, get_or, refl, sym, ap, subst, ◌∙◌, inl, inr, arith}
 use Rattle.std.proofs.lemmas.Bool.{cases_lt, and_parts, and_from, leb-true, ltb-true, lt-ltb, false≢true}
 use Rattle.std.proofs.lemmas.Option.{slice_get_within}
 use Rattle.line_device.specs.History.{WordWritesBack}
@@ -14,16 +14,11 @@ use Rattle.nvm_model.specs.Interrupted.{MayPut}
 use Rattle.nvm_model.specs.Numbered.{AreMixed}
 use Rattle.nvm_model.proofs.MediaLemmas.{cell_stands-zeros}
 use Rattle.nvm_model.proofs.NumberedLemmas.{slice_get-map_from, length-map_from}
-use Rattle.nvm_model.proofs.StandLemmas.{word_write_back-strong, word_write_back-word_stored}
+use Rattle.nvm_model.proofs.StandLemmas.{changed_from, word_write_back-strong, word_write_back-word_stored}
 use Rattle.page_lines.specs.Turns.{Turns, MayTurn, WritesBackOthers, healed}
 use Rattle.page_lines.proofs.OthersLemmas.{others-wider, others-write_back, others-beside}
 use Rattle.page_lines.proofs.TurnLemmas.{stands-write_back}
 use Rattle.page_lines.proofs.PieceLemmas.{word_stored-out, word_stored-part}
-
--- an item that was changed, from the one that it was
-changed_from : {A B : Type 0} (f : A → B) (o : Option A) (y : B) → option_map f o ≡ Some y → (x : A) × (o ≡ Some x) × (y ≡ f x)
-changed_from f None y e = cc
-changed_from f (Some x) y e = (x, refl, cc)
 
 -- a line at another's number, both with the same done to each word
 stands-put : (m b : Medium) (line n at : ℕ) (weak : Bool) (bytes : List ℕ) (words : List (List ℕ)) → CellStands m line (Kept weak words)

@@ -25,18 +25,18 @@ pub record Located (place : ℕ → Option ℕ) (at : ℕ → ℕ) (there : List
   pub nowhere : (n : ℕ) → (slice_get there (n / 64) ≡ Some true → ⊥) → place n ≡ None
 
 -- the line of the device that a cell stands at is bad where the cell is
-cell_bad : (m : Medium) (line : ℕ) (cell : Cell) → CellStands m line cell → m.is_bad line ≡ is_bad_cell (Some cell)
+pub cell_bad : (m : Medium) (line : ℕ) (cell : Cell) → CellStands m line cell → m.is_bad line ≡ is_bad_cell (Some cell)
 cell_bad m line Bad stands = stands
 cell_bad m line (Kept weak words) stands = stands.0
 
 -- a page that is there has the line
-has_line : (cells : List Cell) (k : ℕ) → length cells ≡ 64 → k < 64 → (cell : Cell) × (slice_get cells k ≡ Some cell)
+pub has_line : (cells : List Cell) (k : ℕ) → length cells ≡ 64 → k < 64 → (cell : Cell) × (slice_get cells k ≡ Some cell)
 has_line cells k whole below = (_, slice_get-get_or cells k Bad (omega (arith, whole, below)))
 
-touches-byte : (start len i : ℕ) → start ≤ i → i < start + len → touches start len (i / 64) ≡ true
+pub touches-byte : (start len i : ℕ) → start ≤ i → i < start + len → touches start len (i / 64) ≡ true
 touches-byte start len i from to = and_from _ _ (lt-ltb start (64 * (i / 64) + 64) (omega arith)) (lt-ltb (64 * (i / 64)) (start + len) (omega arith))
 
-byte_of : ℕ → Option Cell → ℕ
+pub byte_of : ℕ → Option Cell → ℕ
 byte_of i None = 0
 byte_of i (Some cell) = cell_byte cell (i % 64)
 

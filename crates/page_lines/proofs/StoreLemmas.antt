@@ -6,7 +6,7 @@ use Rattle.nvm_model.specs.Page.{Page, cell_of, fill}
 use Rattle.page_lines.proofs.PutLemmas.{may_put-left}
 
 -- a put that got nowhere
-unput : (at : ℕ) (bytes : List ℕ) (pages : List Page) → LineByLine (MayPut at bytes) pages pages
+pub unput : (at : ℕ) (bytes : List ℕ) (pages : List Page) → LineByLine (MayPut at bytes) pages pages
 unput at bytes pages = record { there = refl; each = λ n. by_cell n (cell_of pages n) }
   where
     by_cell : (n : ℕ) (o : Option Cell) → Became (MayPut at bytes n) o o

@@ -1,12 +1,12 @@
 -- What calls on one line leave of it, and of the others.
 use Rattle.std.proofs.Common.{◌≡◌, ℕ, ◌+◌, ◌*◌, ◌/◌, ◌<◌, ◌==◌, Bool, true, false, Option, Some, Result, Ok, Err, MatchResult, OnOk, List, [], if◌then◌else◌, refl, sym, ap, subst, ◌∙◌, inl, inr, arith}
-use Rattle.std.proofs.lemmas.Bool.{cases_Bool, ne_eqb, eqb-true, false≢true}
+use Rattle.std.proofs.lemmas.Bool.{cases_Bool, eqb-true, false≢true}
 use Rattle.std.proofs.lemmas.Option.{slice_get_within}
 use Rattle.line_device.specs.History.{WordWritesBack, latest}
 use Rattle.line_device.specs.Medium.{IsSound, Medium, WritesBack, on_line, with_at, renewed, persisted}
 use Rattle.line_device.proofs.HistoryLemmas.{word_write_back-refl, word_write_back-trans}
 use Rattle.line_device.proofs.WriteBackLemmas.{on_line-out, persisted-strong, persisted-weak}
-use Rattle.line_words.proofs.BesideLemmas.{beside-flushed}
+use Rattle.line_words.proofs.BesideLemmas.{beside-flushed, with_at-out}
 use Rattle.nvm_model.specs.Cell.{Cell, CellStands, flush_cell}
 use Rattle.nvm_model.specs.Cell.Cell.{Bad, Kept}
 use Rattle.nvm_model.proofs.StandLemmas.{word_write_back-strong, cell_stands-persisted}
@@ -35,9 +35,6 @@ stands-others lines a b line cell x out stands =
 pub stands-write_back : (a b : Medium) (line : ℕ) (cell : Cell) → WritesBack a b → CellStands a line cell → CellStands b line cell
 stands-write_back a b line cell x stands =
     stands-same a b line cell (x.bad line) (x.weak line) (λ p on. word_write_back-strong (a.is_weak (p / 8)) _ _ (x.word_write_back p)) stands
-
-with_at-out : (f : ℕ → Bool) (line : ℕ) (v : Bool) (n : ℕ) → (n ≡ line → ⊥) → with_at f line v n ≡ f n
-with_at-out f line v n out = ap (λ b. if b then v else f n) (ne_eqb n line out)
 
 with_at-keeps : (f : ℕ → Bool) (line : ℕ) (v : Bool) (n : ℕ) → (n ≡ line → v ≡ false) → f n ≡ false → with_at f line v n ≡ false
 with_at-keeps f line v n here h =

@@ -8,4 +8,4 @@ mod word;
 
 pub use judging::TableFault;
 pub use runs::{Run, four_pages_have_runs};
-pub use table::{INODE_PAGES, INODES, PageTable, SPARE_UNITS, tables_are_right};
+pub use table::{INODE_PAGES, PageTable, SPARE_UNITS, tables_are_right};

@@ -11,9 +11,7 @@ use std::alloc::Global;
 use std::marker::Model;
 use word_tables::Geometry;
 
-/// Inodes, each with a table of as many pages as it may have.
-pub const INODES: u64 = 64;
-
+/// The most pages of an inode.
 pub const INODE_PAGES: u64 = 256;
 
 /// Units that pages leave free, as room for pages that are written before they are switched.

@@ -1,27 +1,19 @@
 -- Bad lines of pages, and those of the device.
-use Rattle.std.proofs.Common.{◌≡◌, ◌/◌, ◌%◌, ◌<◌, ◌&&◌, ℕ, Bool, true, false, not, Option, Some, None, option_map, option_and_then, List, length, slice_get, refl, sym, ap, ◌∙◌, arith}
+use Rattle.std.proofs.Common.{◌≡◌, ◌/◌, ◌%◌, ◌&&◌, ℕ, Bool, true, false, not, Option, Some, None, option_map, option_and_then, List, slice_get, refl, sym, ap, ◌∙◌, arith}
 use Rattle.std.proofs.Math.Bool.{and_comm}
-use Rattle.std.proofs.lemmas.Option.{slice_get-map, slice_get-get_or}
+use Rattle.std.proofs.lemmas.Option.{slice_get-map}
 use Rattle.nvm_base.specs.declared.units.Span.{Span}
 use Rattle.line_device.specs.Medium.{Medium}
 use Rattle.word_tables.specs.Layout.{volume_line}
-use Rattle.nvm_model.specs.Cell.{Cell, CellStands, covers, lowest_touched}
-use Rattle.nvm_model.specs.Cell.Cell.{Bad, Kept}
+use Rattle.nvm_model.specs.Cell.{Cell, covers, lowest_touched}
 use Rattle.nvm_model.specs.Page.{Page, cell_in, cell_of, first_bad_line, first_uncovered_line, is_bad_cell, is_present}
 use Rattle.nvm_model.specs.Page.Page.{Absent, Present}
 use Rattle.page_lines.specs.declared.finding.BadLines.TheVariants.{All, NotCovered}
 use Rattle.page_lines.specs.Sought.{is_bad_at, lowest_bad_in}
 use Rattle.pm_volume.specs.Object.{VolumeHolds, VolumeState, is_wanted, volume_place}
 use Rattle.pm_volume.proofs.PlaceLemmas.{place_of, unplaced}
-
--- the line of the device that a cell stands at is bad where the cell is
-cell_bad : (m : Medium) (line : ℕ) (cell : Cell) → CellStands m line cell → m.is_bad line ≡ is_bad_cell (Some cell)
-cell_bad m line Bad stands = stands
-cell_bad m line (Kept weak words) stands = stands.0
-
--- a page that is there has the line
-pub has_line : (cells : List Cell) (k : ℕ) → length cells ≡ 64 → k < 64 → (cell : Cell) × (slice_get cells k ≡ Some cell)
-has_line cells k whole below = (_, slice_get-get_or cells k Bad (omega (arith, whole, below)))
+use Rattle.page_lines.proofs.StandingLemmas.{cell_bad}
+pub use Rattle.page_lines.proofs.StandingLemmas.{has_line}
 
 module _ (s : VolumeState) (m : Medium) (pages : List Page) (holds : VolumeHolds s m pages) where
   pub page_there : (i : ℕ) → slice_get s.present i ≡ option_map is_present (slice_get pages i)

@@ -1,12 +1,9 @@
 -- How many lines a span touches at most.
-use Rattle.std.proofs.Common.{ℕ, zero, suc, ◌+◌, ◌≤◌, Option, Some, None, arith}
+use Rattle.std.proofs.Common.{ℕ, zero, suc, ◌+◌, ◌≤◌, Option, arith}
 use Rattle.nvm_base.specs.Units.{units_of}
 use Rattle.nvm_base.specs.declared.units.Span.{Span}
-use Rattle.page_lines.specs.Placed.{one_there, there_among, there_in}
-
-one_at_most : (o : Option ℕ) → one_there o ≤ 1
-one_at_most None = omega arith
-one_at_most (Some line) = omega arith
+use Rattle.page_lines.specs.Placed.{there_among, there_in}
+use Rattle.page_lines.proofs.CountLemmas.{one_at_most}
 
 pub there_among_most : (place : ℕ → Option ℕ) (first count : ℕ) → there_among place first count ≤ count
 there_among_most place first zero = omega arith

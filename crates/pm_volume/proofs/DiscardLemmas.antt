@@ -1,22 +1,34 @@
 -- Pages that become absent.
-use Rattle.std.proofs.Common.{◌≡◌, ◌⊎◌, inl, inr, ℕ, suc, ◌+◌, ◌-◌, ◌<◌, ◌≤◌, ◌||◌, [], ◌∷◌, ap₂, arith, Bool, true, false, Option, Some, None, option_map, List, length, slice_get, if◌then◌else◌, refl, sym, ap, subst, ◌∙◌}
+use Rattle.std.proofs.Common.{◌≡◌, ◌⊎◌, inl, inr, ℕ, suc, ◌+◌, ◌-◌, ◌*◌, ◌<◌, ◌≤◌, ◌||◌, [], ◌∷◌, ap₂, arith, Bool, true, false, Option, Some, None, option_map, List, Result, Ok, length, slice_get, if◌then◌else◌, refl, sym, ap, subst, ◌∙◌}
 use Rattle.std.proofs.lemmas.Bool.{cases_lt}
+use Rattle.nvm_base.specs.declared.units.Span.{Span}
+use Rattle.line_device.specs.Device.{Device}
 use Rattle.line_device.specs.Medium.{Medium}
+use Rattle.line_device.proofs.PanelLemmas.{runs_then, runs_within}
+use Rattle.line_words.specs.declared.interruption.Interruption.{Interruption}
 use Rattle.line_words.specs.Words.{WritesBackOutside}
 use Rattle.word_tables.specs.declared.geometry.Geometry.{Geometry}
 use Rattle.word_tables.specs.Layout.{meta_lines, volume_line}
 use Rattle.word_log.specs.Area.{IsOf}
 use Rattle.word_log.specs.Replay.{Replays}
-use Rattle.word_log.specs.Held.{EachReplays}
+use Rattle.word_log.specs.Held.{EachReplays, IsEither}
+use Rattle.word_log.specs.Changes.{commit_calls, commit_persists}
 use Rattle.nvm_model.specs.Cell.{Cell}
 use Rattle.nvm_model.specs.Numbered.{AreMixed, is_among, map_from}
 use Rattle.nvm_model.specs.Page.{Page, PagesStand, discard, discard_page, presence_of}
 use Rattle.nvm_model.specs.Page.Page.{Absent, Present}
 use Rattle.nvm_model.proofs.NumberedLemmas.{slice_get-map_from}
 use Rattle.nvm_model.proofs.PageLemmas.{cell_of-discard, length-discard}
-use Rattle.pm_volume.specs.Area.{volume_area}
+use Rattle.page_lines.specs.Turns.{WritesBackOthers}
+use Rattle.page_lines.proofs.OthersLemmas.{others-trans}
+use Rattle.pm_volume.specs.Area.{IsOfVolume, volume_area}
+use Rattle.pm_volume.specs.Calls.{Switches, Works}
+use Rattle.pm_volume.proofs.MarkLemmas.{marks-outside, marks-trans}
+use Rattle.std.proofs.lemmas.Result.{on_ok_weaker}
+use Rattle.pm_volume.proofs.ResultLemmas.{on_ok-is}
+use Rattle.pm_volume.proofs.ServesLemmas.{others-outside, serves-same}
 use Rattle.pm_volume.specs.Images.{EachReadsPages, ReadsPages}
-use Rattle.pm_volume.specs.Object.{VolumeHolds, VolumeServes, VolumeState}
+use Rattle.pm_volume.specs.Object.{KeepsMarks, VolumeHolds, VolumeServes, VolumeState}
 use Rattle.pm_volume.specs.Presence.{presence_words, switched}
 use Rattle.pm_volume.proofs.FillLemmas.{holds-others, others-meta, there_not_meta}
 use Rattle.pm_volume.proofs.PresenceLemmas.{discarded_presence}
@@ -154,3 +166,50 @@ discarded-next first page pages from =
     let at : page ≡ first + (page - first) = omega (arith, from) in
     let next : page - first + 1 ≡ page + 1 - first = omega (arith, from) in
     ap (λ n. discard n 1 (discard first (page - first) pages)) at ∙ discarded-more first (page - first) pages ∙ ap (λ n. discard first n pages) next
+
+-- a switch of pages to absent
+pub switch-discards : (v s t : VolumeState) (old new : Device) (r : Result (Unit {0}) Interruption) (pages : Span) → v ≡ s → VolumeServes s old.medium → Switches (record v { settled = false }) t old new r pages false
+    → Works (record v { settled = false }) t old new r (discard pages.start pages.len) (λ before. IsEither before (discard pages.start pages.len before)) (commit_calls pages.len) (commit_persists pages.len)
+switch-discards v s t old new r pages seen serves x =
+    let served = subst (λ (w : VolumeState). VolumeServes (record w { settled = false }) old.medium) (sym seen) (serves-same s _ old.medium refl refl serves) in
+    record {
+      ok = on_ok_weaker r (λ there before holds. discarded-holds _ old.medium new.medium served x.outside pages.start pages.len t x.object.0 there before holds) x.ok;
+      images = λ before holds. discarded-images _ old.medium new.medium served x.outside pages.start pages.len x.images (IsEither before (discard pages.start pages.len before)) before holds (inl refl) (inr refl);
+      outside = others-outside v.geo old.medium new.medium served.valid x.outside;
+      metadata = marks-outside v.geo (IsOf (volume_area v.geo)) old.medium new.medium x.outside;
+      serves = x.serves;
+      object = (x.object.0, x.object.1, on_ok-is r t.quiet x.object.2);
+      runs = x.runs;
+    }
+
+-- Pages from `first` on up to this one are absent, of so many.
+abbrev pub DiscardsUpTo : VolumeState → VolumeState → Device → Device → Result (Unit {0}) Interruption → ℕ → ℕ → ℕ → Type 0
+DiscardsUpTo s t old new r first count page =
+    Works s t old new r (discard first (page - first)) (λ before. AreMixed Page before (discard first count before)) (11 * (page - first)) (5 * (page - first))
+
+pub discards-next : (s m t : VolumeState) (old mid new : Device) (r : Result (Unit {0}) Interruption) (first count page : ℕ) → first ≤ page → page < first + count → DiscardsUpTo s m old mid (Ok tt) first count page
+    → Switches m t mid new r (record { start = page; len = 1 }) false → DiscardsUpTo s t old new r first count (page + 1)
+discards-next s m t old mid new r first count page from below done next =
+    let few : page - first ≤ count = omega (arith, from, below) in
+    let more : page + 1 - first ≤ count = omega (arith, from, below) in
+    let calls : 11 * (page - first) + 11 ≤ 11 * (page + 1 - first) = omega (arith, from) in
+    let persists : 5 * (page - first) + 5 ≤ 5 * (page + 1 - first) = omega (arith, from) in
+    record {
+      ok = on_ok_weaker r
+          (λ there before holds.
+          subst (VolumeHolds t new.medium) (discarded-next first page before from)
+          (discarded-holds m mid.medium new.medium done.serves next.outside page 1 t next.object.0 there (discard first (page - first) before) (done.ok before holds)))
+          next.ok;
+      images = λ before holds.
+          subst (λ (geo : Geometry). EachReadsPages geo new.medium (AreMixed Page before (discard first count before))) done.object.0
+          (discarded-images m mid.medium new.medium done.serves next.outside page 1 next.images (AreMixed Page before (discard first count before)) (discard first (page - first) before) (done.ok before holds)
+          (discarded-some first (page - first) count before few)
+          (subst (AreMixed Page before (discard first count before)) (sym (discarded-next first page before from)) (discarded-some first (page + 1 - first) count before more)));
+      outside = others-trans (IsOfVolume s.geo) old.medium mid.medium new.medium done.outside
+          (subst (λ (geo : Geometry). WritesBackOthers (IsOfVolume geo) mid.medium new.medium) done.object.0 (others-outside m.geo mid.medium new.medium done.serves.valid next.outside));
+      metadata = marks-trans s.geo old.medium mid.medium new.medium done.metadata
+          (subst (λ (geo : Geometry). KeepsMarks geo mid.medium new.medium) done.object.0 (marks-outside m.geo (IsOf (volume_area m.geo)) mid.medium new.medium next.outside));
+      serves = next.serves;
+      object = (next.object.0 ∙ done.object.0, next.object.1 ∙ done.object.1, on_ok-is r t.quiet next.object.2);
+      runs = runs_within _ _ _ _ _ _ _ (runs_then _ _ 11 5 _ _ _ _ done.runs next.runs) calls persists;
+    }

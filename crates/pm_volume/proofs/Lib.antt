@@ -30,3 +30,4 @@ pub mod WriteLemmas
 pub mod HoldsLemmas
 pub mod LineCallLemmas
 pub mod RemountLemmas
+pub mod CallLemmas

@@ -62,7 +62,7 @@ line_bytes-are o bytes size h =
     (λ k lt. let small : k < 64 = omega (arith, length-line_bytes o) in get-line_bytes o k small ∙ h k small)
 
 -- a line of zeros reads as one whose page is absent
-byte_at-zero : (k : ℕ) → byte_at k 0 ≡ 0
+pub byte_at-zero : (k : ℕ) → byte_at k 0 ≡ 0
 byte_at-zero zero = refl
 byte_at-zero (suc k) = ap (λ n. n % 256) (zero-div (256 ^ suc k))
 
@@ -200,7 +200,7 @@ stored-bytes pages n bytes size small strong =
         ∙ byte_over-in (64 * n) (64 * n + k) _ bytes (omega arith) (omega (arith, size))
         ∙ ap (λ i. get_or bytes i 0) back
 
-get-latest : (words : List (List ℕ)) (w : ℕ) → slice_index_or (map latest words) w [] ≡ latest (slice_index_or words w [])
+pub get-latest : (words : List (List ℕ)) (w : ℕ) → slice_index_or (map latest words) w [] ≡ latest (slice_index_or words w [])
 get-latest [] w = refl
 get-latest (h ∷ words) zero = refl
 get-latest (h ∷ words) (suc w) = get-latest words w

@@ -1,10 +1,10 @@
 -- Bytes of the volume as last stored.
-use Rattle.std.proofs.Common.{◌≡◌, ℕ, ◌+◌, ◌*◌, ◌/◌, ◌%◌, ◌<◌, ◌≤◌, true, false, Option, Some, None, option_map, option_and_then, List, slice_get, refl, sym, ap, ◌∙◌, arith}
-use Rattle.std.proofs.lemmas.Bool.{and_from, false≢true, lt-ltb}
+use Rattle.std.proofs.Common.{◌≡◌, ℕ, ◌+◌, ◌/◌, ◌%◌, ◌<◌, ◌≤◌, true, false, Option, Some, None, option_map, option_and_then, List, slice_get, refl, sym, ap, ◌∙◌, arith}
+use Rattle.std.proofs.lemmas.Bool.{false≢true}
 use Rattle.nvm_base.specs.declared.units.Span.{Span}
 use Rattle.line_device.specs.Medium.{Medium}
 use Rattle.word_tables.specs.Layout.{volume_line}
-use Rattle.nvm_model.specs.Cell.{Cell, CellStands, cell_byte, touches}
+use Rattle.nvm_model.specs.Cell.{Cell, CellStands, cell_byte}
 use Rattle.nvm_model.specs.Cell.Cell.{Bad, Kept}
 use Rattle.nvm_model.specs.Numbered.{list_from}
 use Rattle.nvm_model.specs.Page.{Page, byte_in, cell_in, cell_of, is_present, look}
@@ -16,9 +16,7 @@ use Rattle.pm_volume.specs.Checked.{IsReadable}
 use Rattle.pm_volume.specs.Object.{VolumeHolds, VolumeState, is_wanted, volume_place}
 use Rattle.pm_volume.proofs.BadLemmas.{cell_at, page_there}
 use Rattle.pm_volume.proofs.PlaceLemmas.{place_of, unplaced}
-
-touches-byte : (start len i : ℕ) → start ≤ i → i < start + len → touches start len (i / 64) ≡ true
-touches-byte start len i from to = and_from _ _ (lt-ltb start (64 * (i / 64) + 64) (omega arith)) (lt-ltb (64 * (i / 64)) (start + len) (omega arith))
+use Rattle.page_lines.proofs.StandingLemmas.{touches-byte}
 
 byte_of : ℕ → Option Cell → ℕ
 byte_of i None = 0

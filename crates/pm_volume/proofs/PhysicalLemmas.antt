@@ -1,10 +1,14 @@
 -- Spans of physical addresses, and where they lie in the volume.
-use Rattle.std.proofs.Common.{◌≡◌, ℕ, ◌+◌, ◌-◌, ◌*◌, ◌≤◌, ◌==◌, ◌&&◌, Bool, true, false, nat_le, is_none, Some, None, option_map, option_and_then, List, if◌then◌else◌, refl, sym, ap, ◌∙◌, arith}
+use Rattle.std.proofs.Common.{◌≡◌, ℕ, ◌+◌, ◌-◌, ◌*◌, ◌≤◌, ◌==◌, ◌&&◌, Bool, true, false, nat_le, is_none, Some, None, option_map, option_and_then, List, Result, if◌then◌else◌, refl, sym, ap, subst, ◌∙◌, arith}
 use Rattle.std.proofs.lemmas.Bool.{and_parts, le-ltb, leb-true}
+use mathlib.Core.Path.{fun_ext}
+use Rattle.line_device.specs.Device.{Device}
 use Rattle.word_tables.specs.declared.geometry.Geometry.{Geometry}
 use Rattle.word_tables.specs.Layout.{first_line, first_range, second_range, size}
 use Rattle.nvm_model.specs.Blocks.{first_there}
 use Rattle.nvm_model.specs.Page.{Page, first_bad_line}
+use Rattle.pm_volume.specs.declared.fault.VolumeFault.{VolumeFault}
+use Rattle.pm_volume.specs.Calls.{SyncsVolume}
 use Rattle.pm_volume.specs.Object.{VolumeState}
 use Rattle.pm_volume.specs.Refusals.VolumeRefusal.{Address, Length, Range}
 use Rattle.pm_volume.specs.Refusals.{physical_offset, physical_refusal, poisoned_at, refused_if, sync_refusal}
@@ -59,3 +63,10 @@ physical_is s pages address len offset some at within =
     ∙ sym
     (ap (λ o. first_there (first_there (refused_if (len == 0) Length) (refused_if (is_none o) Address)) (option_and_then (λ k. poisoned_at (first_bad_line pages k len)) o)) at
     ∙ ap (λ t. first_there (first_there (refused_if t Length) None) (poisoned_at (first_bad_line pages offset len))) some)
+
+-- one that is found is synced as that span
+pub syncs-found : {D T : Type 0} (state : D → Device) (s t : VolumeState) (before after : D) (r : Result T VolumeFault) (address len offset : ℕ) → (len == 0) ≡ false → physical_offset s.geo address len ≡ Some offset
+    → SyncsVolume state s t before after r (λ pages. sync_refusal s pages offset len) (Some offset) len → SyncsVolume state s t before after r (λ pages. physical_refusal s pages address len) (physical_offset s.geo address len) len
+syncs-found state s t before after r address len offset some at x =
+    subst (λ o. SyncsVolume state s t before after r (λ pages. physical_refusal s pages address len) o len) (sym at)
+    (subst (λ why. SyncsVolume state s t before after r why (Some offset) len) (fun_ext (λ pages. physical_is s pages address len offset some at (address_within s.geo address len offset at))) x)

@@ -1,5 +1,5 @@
 -- The volume is served on while its lines are worked on, and each image reads as its pages.
-use Rattle.std.proofs.Common.{◌≡◌, inr, ℕ, ◌/◌, Bool, List, length, sym, subst, ◌∙◌, arith}
+use Rattle.std.proofs.Common.{◌≡◌, inr, ℕ, ◌/◌, Bool, List, length, refl, sym, subst, ◌∙◌, arith}
 use Rattle.line_device.specs.Medium.{Medium, WritesBack}
 use Rattle.line_device.proofs.HistoryLemmas.{is_in-word_write_back}
 use Rattle.line_words.specs.Words.{WritesBackOutside}
@@ -55,6 +55,10 @@ serves-same s t m geo there serves =
     subst (λ g. VolumeServes (record t { geo = g }) m) (sym geo)
     (subst (λ (ps : List Bool). VolumeServes (record t { geo = s.geo; present = ps }) m) (sym there)
     (record { valid = serves.valid; all = serves.all; count = serves.count; strong = serves.strong; rest = serves.rest }))
+
+-- and one inside a call that has only loaded
+pub serves-loaded : (v s : VolumeState) (seen : v ≡ s) (settled : Bool) (old new : Medium) → WritesBack old new → VolumeServes s old → VolumeServes (record v { settled = settled }) new
+serves-loaded v s seen settled old new x serves = subst (λ (v : VolumeState). VolumeServes (record v { settled = settled }) new) (sym seen) (serves-same s _ new refl refl (serves-write_back s old new x serves))
 
 pub holds-same : (s t : VolumeState) (m : Medium) (pages : List Page) → t.geo ≡ s.geo → t.present ≡ s.present → VolumeHolds s m pages → VolumeHolds t m pages
 holds-same s t m pages geo there holds = record {

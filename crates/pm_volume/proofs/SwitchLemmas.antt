@@ -1,37 +1,70 @@
 -- A commit of the presence words of pages.
-use Rattle.std.proofs.Common.{◌≡◌, ℕ, Bool, List, length, ap, subst, ◌∙◌}
-use Rattle.line_device.specs.Medium.{Medium}
-use Rattle.line_words.specs.Words.{WritesBackOutside}
-use Rattle.word_tables.specs.declared.geometry.Geometry.{Geometry}
-use Rattle.nvm_model.proofs.NumberedLemmas.{length-map_from}
-use Rattle.word_log.specs.Area.{IsHome, IsOf}
-use Rattle.word_log.specs.Changes.{changed}
-use Rattle.word_log.specs.Held.{EachReplays}
+use Rattle.std.proofs.Common.{◌≡◌, Bool, OnOk, Result, refl, sym, subst, ◌∙◌}
+use Rattle.std.specs.Result.{is_ok}
+use Rattle.std.proofs.lemmas.Result.{on_ok_weaker}
+use Rattle.nvm_base.specs.declared.units.Span.{Span}
+use Rattle.line_device.specs.Device.{Device}
+use Rattle.line_device.specs.Panel.{Runs}
+use Rattle.line_words.specs.declared.interruption.Interruption.{Interruption}
+use Rattle.line_words.specs.Ending.{ended}
+use Rattle.word_tables.specs.Layout.{meta_lines}
+use Rattle.word_tables.specs.Words.{place, of_volume_page}
+use Rattle.nvm_model.proofs.NumberedLemmas.{length-list_from, length-map_from}
+use Rattle.word_log.specs.Area.{IsUsable}
+use Rattle.word_log.specs.Changes.{commit_calls, commit_persists}
+use Rattle.word_log.specs.Commits.{Commits}
 use Rattle.word_log.specs.Rest.{IsAtRest}
+use Rattle.word_log.proofs.HeldLemmas.{words-images, words-rest}
+use Rattle.nvm_model.specs.Lines.{AreGood}
 use Rattle.pm_volume.specs.Area.{volume_area}
-use Rattle.pm_volume.specs.Object.{VolumeServes, VolumeState}
-use Rattle.pm_volume.specs.Presence.{presence_words, switched, word_changes}
+use Rattle.pm_volume.specs.Calls.{HasBegun, Switches}
+use Rattle.pm_volume.specs.Object.{VolumeState}
+use Rattle.pm_volume.specs.Presence.{presence_word, presence_words, switched, word_changes}
+use Rattle.pm_volume.proofs.AreaLemmas.{area_fits, area_strong, area_whole}
+use Rattle.pm_volume.proofs.ResultLemmas.{on_ok-both}
+use Rattle.pm_volume.proofs.ServesLemmas.{serves-same}
 use Rattle.pm_volume.proofs.WordLemmas.{words_switched}
 
--- they turn the words of the pages into those of the switched ones
-pub turns : (geo : Geometry) (first count : ℕ) (to : Bool) (words : List (ℕ × ℕ)) → words ≡ word_changes geo first count to → (before : List Bool) → length before ≡ geo.vpages
-    → (p : ℕ) → IsHome (volume_area geo) p → changed words (presence_words geo before) p ≡ presence_words geo (switched first count to before) p
-turns geo first count to words are before all p home = ap (λ ws. changed ws (presence_words geo before) p) are ∙ words_switched geo first count to before p all home
+-- The log of a volume can be used for that, and it is all that a commit does.
+module _ (v s : VolumeState) (seen : v ≡ s) (old : Device) (begun : HasBegun s old) where
+  served : HasBegun v old
+  served = subst (λ (w : VolumeState). HasBegun w old) (sym seen) begun
 
--- after it the volume is served with the switched pages
-pub switched-serves : (s : VolumeState) (old new : Medium) (first count : ℕ) (to : Bool) → VolumeServes s old → WritesBackOutside (IsOf (volume_area s.geo)) old new → IsAtRest (volume_area s.geo) new (presence_words s.geo (switched first count to s.present)) → VolumeServes (record s { present = switched first count to s.present }) new
-switched-serves s old new first count to serves x rest = record {
-  valid = serves.valid;
-  all = length-map_from _ 0 s.present ∙ serves.all;
-  count = x.count ∙ serves.count;
-  strong = λ n below. x.weak n ∙ serves.strong n below;
-  rest = rest;
-}
+  pub switch_usable : AreGood old.medium (meta_lines s.geo) → IsUsable (volume_area v.geo) old
+  switch_usable good = record {
+    on = begun.on;
+    fits = area_fits v.geo served.serves.valid old.medium served.serves.count;
+    strong = area_strong v.geo served.serves.valid old.medium served.serves.strong;
+    whole = area_whole v.geo served.serves.valid old.medium (subst (λ (w : VolumeState). AreGood old.medium (meta_lines w.geo)) (sym seen) good);
+  }
 
--- and till then each image has its pages as they were, or switched
-pub switched-images : (view s : VolumeState) (old new : Medium) (first count : ℕ) (to : Bool) → view ≡ s → VolumeServes s old
-    → ((before : List Bool) → length before ≡ view.geo.vpages → IsAtRest (volume_area view.geo) old (presence_words view.geo before) → EachReplays (volume_area view.geo) new (presence_words view.geo before) (presence_words view.geo (switched first count to before)))
-    → EachReplays (volume_area s.geo) new (presence_words s.geo s.present) (presence_words s.geo (switched first count to s.present))
-switched-images view s old new first count to is serves images =
-    subst (λ (t : VolumeState). (before : List Bool) → length before ≡ t.geo.vpages → IsAtRest (volume_area t.geo) old (presence_words t.geo before) → EachReplays (volume_area t.geo) new (presence_words t.geo before) (presence_words t.geo (switched first count to before))) is images
-    s.present serves.all serves.rest
+  module _ (new : Device) (r : Result (Unit {0}) Interruption) (pages : Span) (to : Bool) (x : Commits (volume_area v.geo) old new r (word_changes v.geo pages.start pages.len to)) where
+    rests : OnOk r (IsAtRest (volume_area v.geo) new.medium (presence_words v.geo (switched pages.start pages.len to v.present)))
+    rests =
+        on_ok_weaker r
+        (words-rest (volume_area v.geo) (volume_area v.geo) refl old.medium new.medium (word_changes v.geo pages.start pages.len to) (presence_words v.geo v.present) (presence_words v.geo (switched pages.start pages.len to v.present)) served.serves.rest
+        (λ p home. words_switched v.geo pages.start pages.len to v.present p served.serves.all home))
+        x.ok
+
+    pub switches : (t : VolumeState) (answer : Result (Unit {0}) Interruption) → r ≡ answer → t.geo ≡ v.geo → t.settled ≡ v.settled → t.quiet ≡ is_ok r → OnOk r (t.present ≡ switched pages.start pages.len to v.present) → Switches s t old new answer pages to
+    switches t answer is geo settled quiet there =
+        subst (λ e. Switches s t old new e pages to) is
+        (subst (λ (w : VolumeState). Switches w t old new r pages to) seen (record {
+          ok = there;
+          images =
+              words-images (volume_area v.geo) (volume_area v.geo) refl old.medium new.medium (word_changes v.geo pages.start pages.len to) (presence_words v.geo v.present) (presence_words v.geo (switched pages.start pages.len to v.present)) served.serves.rest
+              (λ p home. words_switched v.geo pages.start pages.len to v.present p served.serves.all home) x.images;
+          outside = x.outside;
+          serves = on_ok-both r
+              (λ there rest.
+              serves-same (record v { present = switched pages.start pages.len to v.present }) t new.medium geo there (record {
+                valid = served.serves.valid;
+                all = length-map_from _ 0 v.present ∙ served.serves.all;
+                count = x.outside.count ∙ served.serves.count;
+                strong = λ n below. x.outside.weak n ∙ served.serves.strong n below;
+                rest = rest;
+              }))
+              there rests;
+          object = (geo, settled, quiet);
+          runs = subst (λ k. Runs (commit_calls k) (commit_persists k) (ended r) old.panel new.panel) (length-list_from (λ page. (place v.geo (of_volume_page page), presence_word to)) pages.start pages.len) x.runs;
+        }))

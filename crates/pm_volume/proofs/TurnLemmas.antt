@@ -19,6 +19,7 @@ use Rattle.pm_volume.specs.Object.{VolumeHolds, VolumeServes, VolumeState, volum
 use Rattle.pm_volume.proofs.BadLemmas.{cell_there}
 use Rattle.pm_volume.proofs.PlaceLemmas.{place_of, placed_line}
 use Rattle.pm_volume.proofs.ServesLemmas.{reads_rest, serves-others}
+use Rattle.nvm_model.proofs.MediaLemmas.{changed_from}
 
 pub length-pages : (s : VolumeState) (m : Medium) (pages : List Page) → VolumeHolds s m pages → length pages ≡ length s.present
 length-pages s m pages holds = sym (length-map pages is_present) ∙ ap length holds.there
@@ -31,10 +32,6 @@ whole-mapped f pages whole i cells is = by_page (slice_get pages i) refl (sym (s
     by_page (Some Absent) was is = cc
     by_page (Some (Present old)) was is =
         let same : map_from f (64 * (0 + i)) old ≡ cells = cc in ap length (sym same) ∙ length-map_from f (64 * (0 + i)) old ∙ whole i old was
-
-changed_from : (f : Cell → Cell) (o : Option Cell) (y : Cell) → option_map f o ≡ Some y → (x : Cell) × (o ≡ Some x) × (f x ≡ y)
-changed_from f None y e = cc
-changed_from f (Some x) y e = (x, refl, cc)
 
 -- what is placed is a line of the volume
 pub placed_lines : (s : VolumeState) (m : Medium) (start len line : ℕ) → VolumeServes s m → IsPlaced (volume_place s.geo s.present true) start len line → IsVolumeLine s.geo line

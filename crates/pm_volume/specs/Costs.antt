@@ -14,11 +14,13 @@ lines_touched start len = (units_of 64 (record { start = start; len = len })).le
 abbrev pub pages_touched : ℕ → ℕ → ℕ
 pages_touched start len = (units_of 4096 (record { start = start; len = len })).len
 
--- Two calls a line; where it fills pages, one for each line of them besides, and a commit of their words. Without that it
--- makes nothing durable.
+-- One call for each line of the pages that it fills, and a commit of their words.
+abbrev pub fill_calls : List Bool → ℕ → ℕ → ℕ
+fill_calls there start len = if touches_absent start len there then 64 * pages_touched start len + commit_calls (pages_touched start len) else 0
+
+-- Two calls a line besides. Where it fills no page it makes nothing durable.
 abbrev pub store_calls : List Bool → ℕ → ℕ → ℕ
-store_calls there start len =
-    2 * lines_touched start len + (if touches_absent start len there then 64 * pages_touched start len + commit_calls (pages_touched start len) else 0)
+store_calls there start len = 2 * lines_touched start len + fill_calls there start len
 
 abbrev pub store_persists : List Bool → ℕ → ℕ → ℕ
 store_persists there start len = if touches_absent start len there then commit_persists (pages_touched start len) else 0

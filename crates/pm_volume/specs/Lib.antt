@@ -8,3 +8,5 @@ pub mod Images
 pub mod Mounting
 pub mod Left
 pub mod Line
+pub mod Synced
+pub mod Calls

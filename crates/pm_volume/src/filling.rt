@@ -1,19 +1,18 @@
 // Absent pages that a store touches, made zeros together.
-ghost use Rattle.std.specs.Prelude.{◌≡◌, ◌⊎◌, ◌+◌, ◌*◌, ◌<◌, ◌≤◌, ◌^◌, ◌/◌, ℕ, IsTrue, List, OnOk, Some, false, length, not, slice_get, true, if◌then◌else◌};
+ghost use Rattle.std.specs.Prelude.{◌≡◌, ◌+◌, ◌*◌, ◌<◌, ◌≤◌, ◌/◌, ℕ, OnOk, Some, false, length, not, slice_get};
 ghost use Rattle.std.specs.List.{list_any};
 ghost use Rattle.line_device.specs.Panel.{Runs};
 ghost use Rattle.line_words.specs.Ending.{ended};
 ghost use Rattle.nvm_model.specs.Cell.{CellStands, zero_cell};
 ghost use Rattle.nvm_model.specs.Lines.{AreGood};
-ghost use Rattle.nvm_model.specs.Page.{Page, fill, touches_absent};
+ghost use Rattle.nvm_model.specs.Page.{fill, touches_absent};
 ghost use Rattle.page_lines.specs.Turns.{WritesBackOthers};
 ghost use Rattle.word_log.specs.Changes.{commit_calls, commit_persists};
+ghost use Rattle.word_log.specs.Held.{IsEither};
 ghost use Rattle.word_tables.specs.Layout.{meta_lines, volume_line};
-ghost use Rattle.pm_volume.specs.Area.{IsOfVolume};
-ghost use Rattle.pm_volume.specs.Checked.{IsAbsentLine, IsCovered};
-ghost use Rattle.pm_volume.specs.Costs.{pages_touched, store_persists};
-ghost use Rattle.pm_volume.specs.Images.{EachReadsPages};
-ghost use Rattle.pm_volume.specs.Object.{KeepsMarks, VolumeHolds, VolumeServes};
+ghost use Rattle.pm_volume.specs.Calls.{HasBegun, IsServed, Works};
+ghost use Rattle.pm_volume.specs.Checked.{IsAbsentLine, IsCovered, IsStorable};
+ghost use Rattle.pm_volume.specs.Costs.{fill_calls, pages_touched, store_persists};
 
 use crate::Volume;
 use line_device::Lines;
@@ -33,26 +32,12 @@ impl Volume {
 
     // Makes the absent pages that a span touches zeros, where there are any.
     pub(crate) fn fill<L: Lines>(&mut self, dev: &mut L, span: Span) -> Result<(), Interruption>
-        requires serves { VolumeServes self.old (L.state dev.old).medium }
-        requires quiet { IsTrue self.old.quiet }
-        requires unsettled { self.old.settled ≡ false }
-        requires on { IsTrue (L.state dev.old).panel.power }
-        requires some { 1 ≤ span.len }
-        requires within { span.start + span.len ≤ 4096 * self.old.geo.vpages }
-        requires good { touches_absent span.start span.len self.old.present ≡ true → AreGood (L.state dev.old).medium (meta_lines self.old.geo) }
-        requires covered { IsCovered self.old (L.state dev.old).medium span }
-        ensures ok { OnOk result ((pages : List Page) → VolumeHolds self.old (L.state dev.old).medium pages
-            → VolumeHolds self.new (L.state dev.new).medium (fill span.start span.len pages)) }
-        ensures images { (pages : List Page) → VolumeHolds self.old (L.state dev.old).medium pages
-            → EachReadsPages self.old.geo (L.state dev.new).medium (λ left. (left ≡ pages) ⊎ (left ≡ fill span.start span.len pages)) }
-        ensures outside { WritesBackOthers (IsOfVolume self.old.geo) (L.state dev.old).medium (L.state dev.new).medium }
-        ensures metadata { KeepsMarks self.old.geo (L.state dev.old).medium (L.state dev.new).medium }
+        requires begun { HasBegun self.old (L.state dev.old) }
+        requires storable { IsStorable self.old (L.state dev.old).medium span }
+        ensures works { Works self.old self.new (L.state dev.old) (L.state dev.new) result (fill span.start span.len)
+            (λ pages. IsEither pages (fill span.start span.len pages))
+            (fill_calls self.old.present span.start span.len) (store_persists self.old.present span.start span.len) }
         ensures covered { OnOk result (IsCovered self.new (L.state dev.new).medium span) }
-        ensures serves { OnOk result (VolumeServes self.new (L.state dev.new).medium) }
-        ensures object { (self.new.geo ≡ self.old.geo) × (self.new.settled ≡ self.old.settled) × (OnOk result (IsTrue self.new.quiet)) }
-        ensures runs { Runs (if touches_absent span.start span.len self.old.present
-            then 64 * pages_touched span.start span.len + commit_calls (pages_touched span.start span.len) else 0)
-            (store_persists self.old.present span.start span.len) (ended result) (L.state dev.old).panel (L.state dev.new).panel }
     {
         if !self.touches_absent(span) {
             return Ok(());
@@ -62,25 +47,13 @@ impl Volume {
 
     // The same where there are some: all of them become there together, once their zeros are durable.
     fn fill_absent<L: Lines>(&mut self, dev: &mut L, span: Span) -> Result<(), Interruption>
-        requires serves { VolumeServes self.old (L.state dev.old).medium }
-        requires quiet { IsTrue self.old.quiet }
-        requires unsettled { self.old.settled ≡ false }
-        requires on { IsTrue (L.state dev.old).panel.power }
-        requires some { 1 ≤ span.len }
-        requires within { span.start + span.len ≤ 4096 * self.old.geo.vpages }
+        requires begun { HasBegun self.old (L.state dev.old) }
+        requires storable { IsStorable self.old (L.state dev.old).medium span }
         requires good { AreGood (L.state dev.old).medium (meta_lines self.old.geo) }
-        requires covered { IsCovered self.old (L.state dev.old).medium span }
-        ensures ok { OnOk result ((pages : List Page) → VolumeHolds self.old (L.state dev.old).medium pages
-            → VolumeHolds self.new (L.state dev.new).medium (fill span.start span.len pages)) }
-        ensures images { (pages : List Page) → VolumeHolds self.old (L.state dev.old).medium pages
-            → EachReadsPages self.old.geo (L.state dev.new).medium (λ left. (left ≡ pages) ⊎ (left ≡ fill span.start span.len pages)) }
-        ensures outside { WritesBackOthers (IsOfVolume self.old.geo) (L.state dev.old).medium (L.state dev.new).medium }
-        ensures metadata { KeepsMarks self.old.geo (L.state dev.old).medium (L.state dev.new).medium }
+        ensures works { let count = pages_touched span.start span.len in
+            Works self.old self.new (L.state dev.old) (L.state dev.new) result (fill span.start span.len)
+            (λ pages. IsEither pages (fill span.start span.len pages)) (64 * count + commit_calls count) (commit_persists count) }
         ensures covered { OnOk result (IsCovered self.new (L.state dev.new).medium span) }
-        ensures serves { OnOk result (VolumeServes self.new (L.state dev.new).medium) }
-        ensures object { (self.new.geo ≡ self.old.geo) × (self.new.settled ≡ self.old.settled) × (OnOk result (IsTrue self.new.quiet)) }
-        ensures runs { Runs (64 * pages_touched span.start span.len + commit_calls (pages_touched span.start span.len))
-            (commit_persists (pages_touched span.start span.len)) (ended result) (L.state dev.old).panel (L.state dev.new).panel }
     {
         let pages = pages_of(span);
         self.clear_absent(dev, pages)?;
@@ -89,8 +62,7 @@ impl Volume {
 
     // Makes the lines of those of these pages that are absent zeros.
     fn clear_absent<L: Lines>(&self, dev: &mut L, pages: Span) -> Result<(), Interruption>
-        requires serves { VolumeServes self.now (L.state dev.old).medium }
-        requires on { IsTrue (L.state dev.old).panel.power }
+        requires served { IsServed self.now (L.state dev.old) }
         requires within { pages.start + pages.len ≤ self.now.geo.vpages }
         ensures zeros { OnOk result ((n : ℕ) → pages.start ≤ n / 64 → n / 64 < pages.start + pages.len → slice_get self.now.present (n / 64) ≡ Some false
             → CellStands (L.state dev.new).medium (volume_line self.now.geo n) zero_cell) }

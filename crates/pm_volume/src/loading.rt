@@ -1,12 +1,9 @@
 // Bytes of the volume as last stored.
-ghost use Rattle.std.specs.Prelude.{◌≡◌, ◌≤◌, IsTrue, List, OnErr, OnOk, length, ℕ};
-ghost use Rattle.line_device.specs.Medium.{WritesBack};
-ghost use Rattle.line_device.specs.Panel.{Runs};
+ghost use Rattle.std.specs.Prelude.{◌≡◌, List, length};
 ghost use Rattle.line_words.specs.Ending.{ended};
 ghost use Rattle.line_words.specs.Told.{Answers, OnRefused, is_done, outcome_by};
-ghost use Rattle.nvm_base.specs.Units.{units_of};
-ghost use Rattle.nvm_model.specs.Numbered.{AreMixed};
-ghost use Rattle.nvm_model.specs.Page.{Page, look};
+ghost use Rattle.nvm_model.specs.Page.{Page};
+ghost use Rattle.pm_volume.specs.Calls.{IsReady, IsServed, LoadsBytes};
 ghost use Rattle.pm_volume.specs.Checked.{IsReadable};
 ghost use Rattle.pm_volume.specs.Object.{VolumeHolds, VolumeServes};
 ghost use Rattle.pm_volume.specs.Refusals.{load_refusal, volume_says};
@@ -25,21 +22,13 @@ impl Volume {
         offset: u64,
         out: &mut [u8],
     ) -> Result<(), VolumeFault>
-        requires serves { VolumeServes self.old (L.state dev.old).medium }
-        requires settled { IsTrue self.old.settled }
-        requires on { IsTrue (L.state dev.old).panel.power }
+        requires ready { IsReady self.old (L.state dev.old) }
         ensures refused { (pages : List Page) → VolumeHolds self.old (L.state dev.old).medium pages
             → Answers volume_says (load_refusal self.old pages offset (length out.old)) result }
         ensures untouched { OnRefused volume_says result ((out.new ≡ out.old) × (dev.new ≡ dev.old)) }
-        ensures ok { OnOk result ((pages : List Page) → VolumeHolds self.old (L.state dev.old).medium pages
-            → out.new ≡ look pages offset (length out.old)) }
-        ensures err { OnErr result ((pages : List Page) → VolumeHolds self.old (L.state dev.old).medium pages
-            → AreMixed ℕ out.old (look pages offset (length out.old)) out.new) }
-        ensures lines { WritesBack (L.state dev.old).medium (L.state dev.new).medium }
+        ensures loads { LoadsBytes self.old (L.state dev.old) (L.state dev.new) result (outcome_by volume_says result) offset out.old out.new }
         ensures serves { VolumeServes self.new (L.state dev.new).medium }
         ensures object { self.new ≡ record self.old { settled = is_done (outcome_by volume_says result) } }
-        ensures runs { Runs (units_of 64 (record { start = offset; len = length out.old })).len 0 (outcome_by volume_says result)
-            (L.state dev.old).panel (L.state dev.new).panel }
     {
         let span = Span {
             start: offset,
@@ -54,16 +43,9 @@ impl Volume {
 
     // Loads bytes that can be read.
     fn load<L: Lines>(&self, dev: &mut L, offset: u64, out: &mut [u8]) -> Result<(), Interruption>
-        requires serves { VolumeServes self.now (L.state dev.old).medium }
-        requires on { IsTrue (L.state dev.old).panel.power }
+        requires served { IsServed self.now (L.state dev.old) }
         requires readable { IsReadable self.now (L.state dev.old).medium (record { start = offset; len = length out.old }) }
-        ensures ok { OnOk result ((pages : List Page) → VolumeHolds self.now (L.state dev.old).medium pages
-            → out.new ≡ look pages offset (length out.old)) }
-        ensures err { OnErr result ((pages : List Page) → VolumeHolds self.now (L.state dev.old).medium pages
-            → AreMixed ℕ out.old (look pages offset (length out.old)) out.new) }
-        ensures lines { WritesBack (L.state dev.old).medium (L.state dev.new).medium }
-        ensures runs { Runs (units_of 64 (record { start = offset; len = length out.old })).len 0 (ended result)
-            (L.state dev.old).panel (L.state dev.new).panel }
+        ensures loads { LoadsBytes self.now (L.state dev.old) (L.state dev.new) result (ended result) offset out.old out.new }
     {
         let lines = self.lines(true);
         load_lines(dev, &lines, offset, out)

@@ -1,14 +1,11 @@
 // Mounting.
 ghost use Rattle.std.specs.Prelude.{◌≡◌, ◌+◌, ◌/◌, ◌≤◌, ◌*◌, ◌<◌, ◌==◌, IfOk, IfSome, IsTrue, length, map, true};
-ghost use Rattle.line_device.specs.Medium.{WritesBack, last_image};
+ghost use Rattle.line_device.specs.Medium.{last_image};
 ghost use Rattle.line_device.specs.Panel.{Runs};
 ghost use Rattle.line_device.specs.Panel.Outcome.{went};
 ghost use Rattle.line_words.specs.Told.{outcome_by};
-ghost use Rattle.line_words.specs.Words.{WritesBackOutside};
 ghost use Rattle.nvm_model.specs.Lines.{AreStrong};
-ghost use Rattle.word_log.specs.Area.{IsOf, gate_place};
-ghost use Rattle.word_log.specs.Mount.{LeavesWrong};
-ghost use Rattle.word_log.specs.Rest.{EachImage, IsReached};
+ghost use Rattle.word_log.specs.Leaving.{LeavesLog};
 ghost use Rattle.word_tables.specs.Bounds.{IsValid};
 ghost use Rattle.word_tables.specs.Layout.{meta_lines, total_lines};
 ghost use Rattle.pm_volume.specs.Area.{volume_area, volume_ranges};
@@ -34,11 +31,7 @@ impl Volume {
         ensures ok { IfOk result (λ volume. (volume.geo ≡ geo)
             × (volume.present ≡ presence_read geo (last_image (L.state dev.old).medium))) }
         ensures finds { FindsVolume geo (L.state dev.old).medium result }
-        ensures images { EachImage (volume_area geo) (L.state dev.new).medium (IsReached (volume_area geo) (L.state dev.old).medium) }
-        ensures refused { LeavesWrong (volume_area geo) (L.state dev.old).medium (L.state dev.new).medium }
-        ensures closed { last_image (L.state dev.old).medium (gate_place (volume_area geo)) ≡ 0
-            → WritesBack (L.state dev.old).medium (L.state dev.new).medium }
-        ensures outside { WritesBackOutside (IsOf (volume_area geo)) (L.state dev.old).medium (L.state dev.new).medium }
+        ensures leaves { LeavesLog (volume_area geo) (L.state dev.old).medium (L.state dev.new).medium }
         ensures serves { IfOk result (λ volume. VolumeServes volume (L.state dev.new).medium) }
         ensures settled { IfOk result (λ volume. IsTrue volume.settled) }
         ensures runs { Runs (1095 + 2 * ((geo.vpages + 7) / 8)) (324 + (geo.vpages + 7) / 8) (outcome_by volume_mount_says result)

@@ -1,20 +1,15 @@
 // Pages that become there, or absent: one commit for all their words, and then what is kept of them in memory.
-ghost use Rattle.std.specs.Prelude.{◌≡◌, ◌+◌, ◌≤◌, ◌<◌, Bool, IsTrue, List, OnOk, false, length};
+ghost use Rattle.std.specs.Prelude.{◌≡◌, ◌+◌, ◌≤◌, ◌<◌, ℕ, true, length};
 ghost use Rattle.std.specs.Result.{is_ok};
-ghost use Rattle.line_device.specs.Medium.{last_image};
-ghost use Rattle.line_device.specs.Panel.{Runs};
-ghost use Rattle.line_words.specs.Words.{WritesBackOutside};
-ghost use Rattle.line_words.specs.Ending.{ended};
-ghost use Rattle.word_log.specs.Area.{IsOf};
-ghost use Rattle.word_log.specs.Changes.{commit_calls, commit_persists};
-ghost use Rattle.word_log.specs.Held.{EachReplays};
+ghost use Rattle.word_log.specs.Area.{IsUsable};
+ghost use Rattle.word_log.specs.Commits.{Commits};
 ghost use Rattle.word_log.specs.Rest.{IsAtRest};
 ghost use Rattle.word_tables.specs.Bounds.{IsValid};
-ghost use Rattle.word_tables.specs.Layout.{meta_lines, total_lines};
-ghost use Rattle.nvm_model.specs.Lines.{AreGood, AreStrong};
+ghost use Rattle.word_tables.specs.Layout.{meta_lines};
+ghost use Rattle.nvm_model.specs.Lines.{AreGood};
 ghost use Rattle.pm_volume.specs.Area.{volume_area};
-ghost use Rattle.pm_volume.specs.Object.{VolumeServes};
-ghost use Rattle.pm_volume.specs.Presence.{presence_word, presence_words, switched, word_changes};
+ghost use Rattle.pm_volume.specs.Calls.{HasBegun, Switches};
+ghost use Rattle.pm_volume.specs.Presence.{presence_word, switched, word_changes};
 
 use crate::Volume;
 use arrayvec::ArrayVec;
@@ -35,22 +30,11 @@ impl Volume {
         pages: Span,
         there: bool,
     ) -> Result<(), Interruption>
-        requires serves { VolumeServes self.old (L.state dev.old).medium }
-        requires quiet { IsTrue self.old.quiet }
-        requires unsettled { self.old.settled ≡ false }
-        requires on { IsTrue (L.state dev.old).panel.power }
+        requires begun { HasBegun self.old (L.state dev.old) }
         requires good { AreGood (L.state dev.old).medium (meta_lines self.old.geo) }
         requires some { 0 < pages.len }
         requires within { pages.start + pages.len ≤ self.old.geo.vpages }
-        ensures ok { OnOk result (self.new.present ≡ switched pages.start pages.len there self.old.present) }
-        ensures images { EachReplays (volume_area self.old.geo) (L.state dev.new).medium
-            (presence_words self.old.geo self.old.present)
-            (presence_words self.old.geo (switched pages.start pages.len there self.old.present)) }
-        ensures outside { WritesBackOutside (IsOf (volume_area self.old.geo)) (L.state dev.old).medium (L.state dev.new).medium }
-        ensures serves { OnOk result (VolumeServes self.new (L.state dev.new).medium) }
-        ensures object { (self.new.geo ≡ self.old.geo) × (self.new.settled ≡ self.old.settled) × (self.new.quiet ≡ is_ok result) }
-        ensures runs { Runs (commit_calls pages.len) (commit_persists pages.len) (ended result)
-            (L.state dev.old).panel (L.state dev.new).panel }
+        ensures switches { Switches self.old self.new (L.state dev.old) (L.state dev.new) result pages there }
     {
         commit(&mut self.log, dev, self.geo, pages, there)?;
         mark(&mut self.present, pages, there);
@@ -67,24 +51,12 @@ fn commit<L: Lines>(
     there: bool,
 ) -> Result<(), Interruption>
     requires valid { IsValid geo }
-    requires area { log.old.area ≡ volume_area geo }
-    requires settled { IsTrue log.old.settled }
-    requires on { IsTrue (L.state dev.old).panel.power }
-    requires lines { (L.state dev.old).medium.count ≡ total_lines geo }
-    requires strong { AreStrong (L.state dev.old).medium (meta_lines geo) }
-    requires good { AreGood (L.state dev.old).medium (meta_lines geo) }
-    requires rest { (before : List Bool) × IsAtRest (volume_area geo) (L.state dev.old).medium (presence_words geo before) }
+    requires log { log.old ≡ record { area = volume_area geo; settled = true } }
+    requires usable { IsUsable (volume_area geo) (L.state dev.old) }
+    requires rest { (words : ℕ → ℕ) × IsAtRest (volume_area geo) (L.state dev.old).medium words }
     requires some { 0 < pages.len }
     requires within { pages.start + pages.len ≤ geo.vpages }
-    ensures ok { OnOk result ((before : List Bool) → length before ≡ geo.vpages
-        → IsAtRest (volume_area geo) (L.state dev.old).medium (presence_words geo before)
-        → IsAtRest (volume_area geo) (L.state dev.new).medium (presence_words geo (switched pages.start pages.len there before))) }
-    ensures images { (before : List Bool) → length before ≡ geo.vpages
-        → IsAtRest (volume_area geo) (L.state dev.old).medium (presence_words geo before)
-        → EachReplays (volume_area geo) (L.state dev.new).medium
-        (presence_words geo before) (presence_words geo (switched pages.start pages.len there before)) }
-    ensures outside { WritesBackOutside (IsOf (volume_area geo)) (L.state dev.old).medium (L.state dev.new).medium }
-    ensures runs { Runs (commit_calls pages.len) (commit_persists pages.len) (ended result) (L.state dev.old).panel (L.state dev.new).panel }
+    ensures commits { Commits (volume_area geo) (L.state dev.old) (L.state dev.new) result (word_changes geo pages.start pages.len there) }
     ensures log { log.new ≡ record log.old { settled = is_ok result } }
 {
     let words = word_changes(geo, pages, there);

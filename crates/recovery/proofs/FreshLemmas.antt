@@ -1,13 +1,12 @@
 -- A device that was made anew.
-use Rattle.std.proofs.Common.{◌≡◌, ◌/◌, ◌%◌, ◌==◌, ◌<◌, ◌≤◌, inl, inr, ℕ, Bool, true, false, List, [], ◌∷◌, None, Result, Ok, Err, OnOk, if◌then◌else◌, refl, sym, ◌∙◌, ap, subst, arith}
+use Rattle.std.proofs.Common.{◌≡◌, ◌/◌, ◌%◌, ◌<◌, ◌≤◌, inl, inr, ℕ, Bool, false, List, [], ◌∷◌, None, Result, Ok, Err, OnOk, if◌then◌else◌, refl, sym, ◌∙◌, ap, subst, arith}
 use Rattle.std.proofs.lemmas.Bool.{cases_lt, lt-ltb}
-use Rattle.line_device.specs.History.{newest, IsIn, IsTorn, WordWritesBack}
-use Rattle.line_device.specs.Medium.{Medium, WritesBack, IsSound, last_image, zeros, installed, with_at}
+use Rattle.line_device.specs.History.{IsIn, IsTorn, WordWritesBack}
+use Rattle.line_device.specs.Medium.{Medium, WritesBack, IsSound, last_image, zeros, installed}
 use Rattle.line_device.specs.Word.{word_at}
 use Rattle.line_device.specs.declared.line.LineState.TheVariants.{Healthy}
 use Rattle.line_device.proofs.HistoryLemmas.{word_write_back-one, is_in-one}
 use Rattle.line_device.proofs.WriteBackLemmas.{write_back-refl, on_line-in, on_line-out}
-use Rattle.line_words.specs.Words.{IsOnly}
 use Rattle.word_tables.specs.declared.geometry.Geometry.{Geometry}
 use Rattle.word_tables.specs.Bounds.{IsValid}
 use Rattle.word_tables.specs.Layout.{first_line, total_lines}
@@ -19,7 +18,7 @@ use Rattle.block_device.specs.Reading.{blocks_read}
 use Rattle.block_device.proofs.FrameLemmas.{each_reads-kept}
 use Rattle.block_device.proofs.ImageLemmas.{each_reads-then}
 use Rattle.block_device.proofs.ReachLemmas.{reads_right}
-use Rattle.block_device.proofs.RestartLemmas.{block_image-last, block_on_device}
+use Rattle.block_device.proofs.RestartLemmas.{block_image-last, block_on_device, is_only-one as is_only_one}
 use Rattle.block_device.proofs.ZerosLemmas.{zeros_read}
 use Rattle.recovery.specs.Findings.{geometry_told, early_finding, first_finding}
 use Rattle.pm_volume.specs.Presence.{wrong_volume_place}
@@ -30,9 +29,7 @@ use Rattle.recovery.proofs.FindingLemmas.{all_right}
 use Rattle.recovery.proofs.FreshFileLemmas.{fresh_tables}
 use Rattle.recovery.proofs.FreshPageLemmas.{fresh-first, fresh-later, fresh_presence}
 use Rattle.recovery.proofs.SuperblockLemmas.{some_lines, superblock_told, early_none}
-
-none_marked : (f : ℕ → Bool) (line n : ℕ) → f n ≡ false → with_at f line false n ≡ false
-none_marked f line n h = elim (n == line) as (λ b. (if b then false else f n) ≡ false) [ true ↦ refl | false ↦ h ]
+use Rattle.line_words.proofs.BesideLemmas.{with_at-false as none_marked}
 
 -- lines of zeros, and the first one installed
 module _ (geo : Geometry) (lines : ℕ) (mid new : Medium) (bytes : List ℕ) (valid : IsValid geo) (all : lines ≡ total_lines geo) (zeroed : WritesBack (zeros lines) mid)
@@ -71,9 +68,6 @@ pub fresh_installed : {A E : Type 0} (r : Result A E) (geo : Geometry) (lines : 
     → OnOk r (WritesBack (installed mid 0 (Healthy bytes)) new) → ((w : ℕ) → w < 8 → word_at bytes w ≡ superblock_word geo w) → OnOk r (IsFresh geo new)
 fresh_installed (Ok x) geo lines mid new bytes valid all zeroed put spells = made_fresh geo lines mid new bytes valid all zeroed put spells
 fresh_installed (Err e) geo lines mid new bytes valid all zeroed put spells = tt
-
-is_only_one : (v : ℕ) (history : List ℕ) → history ≡ v ∷ [] → IsOnly (newest history) history
-is_only_one v history one w at = is_in-one w v (subst (IsIn w) one at) ∙ sym (ap newest one)
 
 -- the blocks' lines lie behind the first one
 behind_first : (geo : Geometry) (n : ℕ) → IsBlockLine geo n → 1 ≤ n

@@ -9,6 +9,7 @@ use Rattle.word_tables.specs.declared.geometry.Geometry.{Geometry}
 use Rattle.word_tables.specs.Bounds.{IsValid}
 use Rattle.word_log.specs.declared.area.LogArea.{LogArea}
 use Rattle.word_log.specs.Area.{AreHomeWords, IsOf, IsShaped, gate_place}
+use Rattle.word_log.specs.Leaving.{LeavesLog}
 use Rattle.word_log.specs.Replay.{Replays, first_wrong, replayed}
 use Rattle.word_log.specs.Rest.{EachImage, IsAtRest, IsReached}
 use Rattle.word_log.proofs.PhaseLemmas.{reached_write_back}
@@ -98,27 +99,27 @@ leaves-then geo valid old mid new x y = record {
 }
 
 -- one log is mounted, and the others are left
-pub leaves_one : (geo : Geometry) → IsValid geo → (a : LogArea) → IsLogOf geo a → (old new : Medium) → EachImage a new (IsReached a old) → (last_image old (gate_place a) ≡ 0 → WritesBack old new) → WritesBackOutside (IsOf a) old new → LeavesLogs geo old new
+pub leaves_one : (geo : Geometry) → IsValid geo → (a : LogArea) → IsLogOf geo a → (old new : Medium) → LeavesLog a old new → LeavesLogs geo old new
 leaves_one geo valid a is old new =
-    of_each geo a is (λ b. EachImage b new (IsReached b old) → (last_image old (gate_place b) ≡ 0 → WritesBack old new) → WritesBackOutside (IsOf b) old new → LeavesLogs geo old new)
-    (λ images closed x. record {
-      blocks = images;
-      volume = each_kept (volume_area geo) (IsOf (block_area geo)) old new x (λ p page block. blocks_volume geo valid p block page);
-      files = each_kept (file_area geo) (IsOf (block_area geo)) old new x (λ p file block. blocks_files geo valid p block file);
-      closed = λ zero _ _. closed zero;
-      outside = outside-wider (IsOf (block_area geo)) (IsOfLogs geo) old new (λ p of. inl of) x;
+    of_each geo a is (λ b. LeavesLog b old new → LeavesLogs geo old new)
+    (λ left. record {
+      blocks = left.images;
+      volume = each_kept (volume_area geo) (IsOf (block_area geo)) old new left.outside (λ p page block. blocks_volume geo valid p block page);
+      files = each_kept (file_area geo) (IsOf (block_area geo)) old new left.outside (λ p file block. blocks_files geo valid p block file);
+      closed = λ zero _ _. left.closed zero;
+      outside = outside-wider (IsOf (block_area geo)) (IsOfLogs geo) old new (λ p of. inl of) left.outside;
     })
-    (λ images closed x. record {
-      blocks = each_kept (block_area geo) (IsOf (volume_area geo)) old new x (blocks_volume geo valid);
-      volume = images;
-      files = each_kept (file_area geo) (IsOf (volume_area geo)) old new x (λ p file page. volume_files geo valid p page file);
-      closed = λ _ zero _. closed zero;
-      outside = outside-wider (IsOf (volume_area geo)) (IsOfLogs geo) old new (λ p of. inr (inl of)) x;
+    (λ left. record {
+      blocks = each_kept (block_area geo) (IsOf (volume_area geo)) old new left.outside (blocks_volume geo valid);
+      volume = left.images;
+      files = each_kept (file_area geo) (IsOf (volume_area geo)) old new left.outside (λ p file page. volume_files geo valid p page file);
+      closed = λ _ zero _. left.closed zero;
+      outside = outside-wider (IsOf (volume_area geo)) (IsOfLogs geo) old new (λ p of. inr (inl of)) left.outside;
     })
-    (λ images closed x. record {
-      blocks = each_kept (block_area geo) (IsOf (file_area geo)) old new x (blocks_files geo valid);
-      volume = each_kept (volume_area geo) (IsOf (file_area geo)) old new x (volume_files geo valid);
-      files = images;
-      closed = λ _ _ zero. closed zero;
-      outside = outside-wider (IsOf (file_area geo)) (IsOfLogs geo) old new (λ p of. inr (inr of)) x;
+    (λ left. record {
+      blocks = each_kept (block_area geo) (IsOf (file_area geo)) old new left.outside (blocks_files geo valid);
+      volume = each_kept (volume_area geo) (IsOf (file_area geo)) old new left.outside (volume_files geo valid);
+      files = left.images;
+      closed = λ _ _ zero. left.closed zero;
+      outside = outside-wider (IsOf (file_area geo)) (IsOfLogs geo) old new (λ p of. inr (inr of)) left.outside;
     })

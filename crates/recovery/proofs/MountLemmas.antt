@@ -1,5 +1,5 @@
 -- What a mount gives, once nothing was found before a log is replayed.
-use Rattle.std.proofs.Common.{◌≡◌, ℕ, List, None, Result, Ok, Err, IfOk, IsTrue, OnOk, map, option_map, sym, ◌∙◌, ap, ap₂, subst}
+use Rattle.std.proofs.Common.{◌≡◌, ℕ, List, None, Result, Ok, Err, IfOk, IsTrue, map, option_map, sym, ◌∙◌, ap, ap₂, subst}
 use Rattle.nvm_base.proofs.FirstLemmas.{not_mapped}
 use Rattle.line_device.specs.Medium.{Medium, WritesBack, last_image}
 use Rattle.line_words.proofs.FrameLemmas.{last_image-write_back}
@@ -7,22 +7,21 @@ use Rattle.word_tables.specs.declared.geometry.Geometry.{Geometry}
 use Rattle.word_log.specs.Mount.Finding.{wrong_word}
 use Rattle.word_log.specs.Replay.{replayed}
 use Rattle.word_log.specs.Rest.{IsAtRest}
+use Rattle.word_log.proofs.FindingLemmas.{IsRead}
 use Rattle.block_map.specs.States.{word_of}
 use Rattle.block_device.specs.Area.{block_area}
 use Rattle.block_device.specs.Images.{KeepsReads}
 use Rattle.block_device.specs.Mounting.{wrong_map_word}
-use Rattle.block_device.specs.Object.{AreDurable, BlocksServe, blocks_of}
+use Rattle.block_device.specs.Object.{AreDurable, BlocksServe}
 use Rattle.block_device.specs.Reading.{states_read, blocks_read}
 use Rattle.block_device.proofs.MountedLemmas as blocks
 use Rattle.block_device.proofs.PlaceLemmas.{area_whole}
 use Rattle.block_device.proofs.ReachLemmas.{keeps_reads-reached, keeps_reads-trans, keeps_reads-write_back}
 use Rattle.block_device.proofs.ReadLemmas.{durable-write_back}
 use Rattle.pm_volume.specs.Area.{volume_area}
-use Rattle.pm_volume.specs.Object.{VolumeServes}
-use Rattle.pm_volume.specs.Presence.{presence_read, presence_word, words_read, wrong_page_word}
+use Rattle.pm_volume.specs.Presence.{presence_read, words_read, wrong_page_word}
 use Rattle.pm_volume.proofs.MountedLemmas as pages
 use Rattle.file_journal.specs.Area.{file_area}
-use Rattle.file_journal.specs.Object.{JournalServes}
 use Rattle.file_journal.specs.Reading as reading
 use Rattle.file_journal.proofs.MountLemmas as files
 use Rattle.recovery.specs.declared.fault.MountFault.{MountFault}
@@ -30,9 +29,10 @@ use Rattle.recovery.specs.declared.Mounted.{Mounted}
 use Rattle.recovery.specs.declared.replaying.Tables.{Tables}
 use Rattle.recovery.specs.Findings.{geometry_told, inspection_finding, first_finding, wrong_log, wrong_table}
 use Rattle.recovery.specs.Mounting.{Finds, HasDurableBlocks, IsInOrder, IsOfLogs}
-use Rattle.recovery.specs.Tables.{AreTables, LeavesLogs, ServesFiles, wrong_words}
+use Rattle.recovery.specs.Calls.{IsMounted, LeavesDevice}
+use Rattle.recovery.specs.Tables.{AreOf, AreTables, LeavesLogs, ServesFiles, wrong_words}
 use Rattle.recovery.proofs.FindingLemmas.{bad-write_back, finds_judged, three_none}
-use Rattle.recovery.proofs.LogLemmas.{logs_in_metadata}
+use Rattle.recovery.proofs.LogLemmas.{in_order-outside, logs_in_metadata}
 use Rattle.recovery.proofs.LeaveLemmas.{leaves-then, leaves-write_back}
 
 module _ (old now : Medium) (geo : Geometry) (is : geo ≡ geometry_told old) (x : WritesBack old now) where
@@ -45,24 +45,24 @@ module _ (old now : Medium) (geo : Geometry) (is : geo ≡ geometry_told old) (x
   blocks_same =
       ap₂ (blocks_read geo) (bad-write_back old now x) (last_image-write_back old now x) ∙ ap (λ g. blocks_read g old.is_bad (last_image old)) is
 
+  pub left_unreplayed : LeavesDevice old now
+  left_unreplayed = record {
+    logs = leaves-write_back (geometry_told old) old now x;
+    reads = λ _. keeps_reads-write_back (geometry_told old) old now x;
+    refused = λ _. x;
+  }
+
   -- what the replays leave, they leave of the device
-  module _ (new : Medium) (order : IsInOrder geo now) (left : LeavesLogs geo now new) where
-    pub mount_left : LeavesLogs (geometry_told old) old new
-    mount_left = subst (λ g. LeavesLogs g old new) is (leaves-then geo order.valid old now new (leaves-write_back geo old now x) left)
-
-    pub mount_reads : KeepsReads (geometry_told old) old new
-    mount_reads =
-        subst (λ g. KeepsReads g old new) is
-        (keeps_reads-trans geo old now new order.valid (keeps_reads-write_back geo old now x)
-        (keeps_reads-reached geo (IsOfLogs geo) (logs_in_metadata geo order.valid) now new order.valid left.outside left.blocks (area_whole geo order.valid now order.good)))
-
-    -- the blocks' log is at rest
-    pub mount_rest : {T E : Type 0} (r : Result T E) → IsAtRest (block_area geo) new (replayed (block_area geo) (last_image now))
-        → OnOk r (IsAtRest (block_area (geometry_told old)) new (replayed (block_area (geometry_told old)) (last_image old)))
-    mount_rest (Err e) rest = tt
-    mount_rest (Ok made) rest =
-        subst (λ (word : ℕ → ℕ). IsAtRest (block_area (geometry_told old)) new (replayed (block_area (geometry_told old)) word)) (last_image-write_back old now x)
-        (subst (λ g. IsAtRest (block_area g) new (replayed (block_area g) (last_image now))) is rest)
+  module _ (right : inspection_finding old ≡ None) (new : Medium) (order : IsInOrder geo now) (left : LeavesLogs geo now new) where
+    pub mount_leaves : LeavesDevice old new
+    mount_leaves = record {
+      logs = subst (λ g. LeavesLogs g old new) is (leaves-then geo order.valid old now new (leaves-write_back geo old now x) left);
+      reads = λ _.
+          subst (λ g. KeepsReads g old new) is
+          (keeps_reads-trans geo old now new order.valid (keeps_reads-write_back geo old now x)
+          (keeps_reads-reached geo (IsOfLogs geo) (logs_in_metadata geo order.valid) now new order.valid left.outside left.blocks (area_whole geo order.valid now order.good)));
+      refused = λ wrong. absurd (wrong right);
+    }
 
   -- the tables that were read
   module _ (right : inspection_finding old ≡ None) (tables : Tables) (are : AreTables geo (last_image now) tables) where
@@ -76,54 +76,47 @@ module _ (old now : Medium) (geo : Geometry) (is : geo ≡ geometry_told old) (x
     mount_finds r h = finds_judged old r right (subst (λ o. Finds (option_map wrong_word o) r) words_same h)
 
     -- and what was made of them
-    module _ (new : Medium) (order : IsInOrder geo now) (left : LeavesLogs geo now new) where
-      tables_right : wrong_words geo tables.map.items tables.presence.items tables.file_words.items ≡ None
-          → (wrong_map_word geo tables.map.items ≡ None) × (reading.wrong_table geo tables.file_words.items ≡ None)
-      tables_right none =
-          let parts = three_none (wrong_map_word geo tables.map.items) (wrong_page_word geo tables.presence.items) (reading.wrong_table geo tables.file_words.items) none in
-          (parts.0, parts.2)
-
-      pub mount_ok : (r : Result Mounted MountFault) → IsAtRest (block_area geo) new (replayed (block_area geo) (last_image now))
-          → IfOk r (λ mounted. mounted.geo ≡ geo) → IfOk r (λ mounted. (mounted.blocks.geo ≡ geo) × (map word_of mounted.blocks.map ≡ tables.map.items))
-          → IfOk r (λ mounted. (mounted.volume.geo ≡ geo) × (map presence_word mounted.volume.present ≡ tables.presence.items))
-          → IfOk r (λ mounted. (mounted.files.journal.geo ≡ geo) × (mounted.files.journal.tables ≡ reading.tables_of tables.file_words.items))
-          → Finds (option_map wrong_word (wrong_words geo tables.map.items tables.presence.items tables.file_words.items)) r
-          → IfOk r (λ mounted. (mounted.geo ≡ geometry_told old) × (mounted.blocks.geo ≡ geometry_told old) × (blocks_of mounted.blocks new ≡ blocks_read (geometry_told old) old.is_bad (last_image old))
-          × (mounted.volume.geo ≡ geometry_told old) × (mounted.volume.present ≡ presence_read (geometry_told old) (last_image old))
-          × (mounted.files.journal.geo ≡ geometry_told old) × (mounted.files.journal.tables ≡ reading.tables_read (geometry_told old) (last_image old)))
-      mount_ok (Err f) blocks_rest sizes made present named h = tt
-      mount_ok (Ok mounted) blocks_rest sizes made present named h =
-          let reads = blocks.judged_reads geo order.valid (IsOfLogs geo) (logs_in_metadata geo order.valid) now new tables.map.items (record { words = are.map; rest = blocks_rest; outside = left.outside }) (Ok mounted.blocks) made (tables_right (not_mapped wrong_word _ h)).0 in
-          let there = pages.judged_pages geo now tables.presence.items are.presence (Ok mounted.volume) present in
-          let on = files.judged_tables geo now tables.file_words.items are.file_words (Ok mounted.files.journal) named in
-          (sizes ∙ is, reads.0 ∙ is, reads.1 ∙ blocks_same, there.0 ∙ is, there.1 ∙ ap₂ presence_read is (last_image-write_back old now x), on.0 ∙ is, on.1 ∙ ap₂ reading.tables_read is (last_image-write_back old now x))
-
-      -- they serve, the blocks where what the map names was durable
-      pub mount_serves : (r : Result Mounted MountFault) → IsAtRest (block_area geo) new (replayed (block_area geo) (last_image now))
-          → IfOk r (λ mounted. (mounted.blocks.geo ≡ geo) × (map word_of mounted.blocks.map ≡ tables.map.items))
-          → Finds (option_map wrong_word (wrong_words geo tables.map.items tables.presence.items tables.file_words.items)) r → HasDurableBlocks old → IfOk r (λ mounted. BlocksServe mounted.blocks new)
-      mount_serves (Err f) rest made h durable = tt
-      mount_serves (Ok mounted) rest made h durable =
-          let states = states_read geo (last_image old) in
-          let told = subst (λ g. AreDurable g old (states_read g (last_image old))) (sym is) (durable (mount_finds (Ok mounted) h)) in
-          let still = subst (λ (word : ℕ → ℕ). AreDurable geo now (states_read geo word)) (sym (last_image-write_back old now x)) (durable-write_back geo states old now x told) in
-          blocks.judged_serves geo order.valid (IsOfLogs geo) (logs_in_metadata geo order.valid) now new tables.map.items (record { words = are.map; rest = rest; outside = left.outside }) (Ok mounted.blocks) order.count order.strong made (tables_right (not_mapped wrong_word _ h)).0 still
-
-      pub mount_volume : (r : Result Mounted MountFault) → IsAtRest (volume_area geo) new (replayed (volume_area geo) (last_image now))
-          → IfOk r (λ mounted. (mounted.volume.geo ≡ geo) × (map presence_word mounted.volume.present ≡ tables.presence.items)) → IfOk r (λ mounted. VolumeServes mounted.volume new)
-      mount_volume (Err f) rest made = tt
-      mount_volume (Ok mounted) rest made = pages.judged_serves geo order.valid now new (IsOfLogs geo) tables.presence.items (record { words = are.presence; rest = rest; outside = left.outside }) (Ok mounted.volume) order.count order.strong made
-
+    module _ (new : Medium) (order : IsInOrder geo now) (left : LeavesLogs geo now new) (files_rest : IsAtRest (file_area geo) new (replayed (file_area geo) (last_image now))) where
       -- the device is the one of the files of the words that were read
-      pub mount_files : IsAtRest (file_area geo) new (replayed (file_area geo) (last_image now)) → ServesFiles geo new tables.file_words.items
-      mount_files rest s sizes named right =
-          files.judged_serves geo now new (IsOfLogs geo) tables.file_words.items (record { words = are.file_words; rest = rest; outside = left.outside }) (Ok s) order.count order.strong (sizes, named) right
+      pub mount_files : ServesFiles geo new tables.file_words.items
+      mount_files s sizes named right =
+          files.judged_serves geo now new (IsOfLogs geo) tables.file_words.items (record { words = are.file_words; rest = files_rest; outside = left.outside }) (Ok s) order.count order.strong (sizes, named) right
 
-      pub mount_journal : (r : Result Mounted MountFault) → IsAtRest (file_area geo) new (replayed (file_area geo) (last_image now))
-          → IfOk r (λ mounted. (mounted.files.journal.geo ≡ geo) × (mounted.files.journal.tables ≡ reading.tables_of tables.file_words.items))
-          → Finds (option_map wrong_word (wrong_words geo tables.map.items tables.presence.items tables.file_words.items)) r → IfOk r (λ mounted. JournalServes mounted.files.journal new)
-      mount_journal (Err f) rest made h = tt
-      mount_journal (Ok mounted) rest made h = mount_files rest mounted.files.journal made.0 made.1 (tables_right (not_mapped wrong_word _ h)).1
+      module _ (rest : IsAtRest (block_area geo) new (replayed (block_area geo) (last_image now))) (volume_rest : IsAtRest (volume_area geo) new (replayed (volume_area geo) (last_image now))) where
+        pub mount_mounted : (r : Result Mounted MountFault) → IfOk r (AreOf geo new tables)
+            → Finds (option_map wrong_word (wrong_words geo tables.map.items tables.presence.items tables.file_words.items)) r → IfOk r (IsMounted old new)
+        mount_mounted (Err f) made h = tt
+        mount_mounted (Ok mounted) made h =
+            let parts = three_none (wrong_map_word geo tables.map.items) (wrong_page_word geo tables.presence.items) (reading.wrong_table geo tables.file_words.items) (not_mapped wrong_word _ h) in
+            let of_blocks : IsRead (block_area geo) (IsOfLogs geo) now new tables.map.items = record { words = are.map; rest = rest; outside = left.outside } in
+            let reads = blocks.judged_reads geo order.valid (IsOfLogs geo) (logs_in_metadata geo order.valid) now new tables.map.items of_blocks (Ok mounted.blocks) made.blocks parts.0 in
+            let there = pages.judged_pages geo now tables.presence.items are.presence (Ok mounted.volume) made.volume in
+            let on = files.judged_tables geo now tables.file_words.items are.file_words (Ok mounted.files.journal) made.journal in
+            let states = states_read geo (last_image old) in
+            record {
+              geo = made.sizes ∙ is;
+              blocks_geo = reads.0 ∙ is;
+              blocks = reads.1 ∙ blocks_same;
+              blocks_serve = λ durable.
+                  let told = subst (λ g. AreDurable g old (states_read g (last_image old))) (sym is) (durable (mount_finds (Ok mounted) h)) in
+                  let still = subst (λ (word : ℕ → ℕ). AreDurable geo now (states_read geo word)) (sym (last_image-write_back old now x)) (durable-write_back geo states old now x told) in
+                  blocks.judged_serves geo order.valid (IsOfLogs geo) (logs_in_metadata geo order.valid) now new tables.map.items of_blocks (Ok mounted.blocks) order.count order.strong made.blocks parts.0 still;
+              rest =
+                  subst (λ (word : ℕ → ℕ). IsAtRest (block_area (geometry_told old)) new (replayed (block_area (geometry_told old)) word)) (last_image-write_back old now x)
+                  (subst (λ g. IsAtRest (block_area g) new (replayed (block_area g) (last_image now))) is rest);
+              volume_geo = there.0 ∙ is;
+              present = there.1 ∙ ap₂ presence_read is (last_image-write_back old now x);
+              volume_serves = pages.judged_serves geo order.valid now new (IsOfLogs geo) tables.presence.items (record { words = are.presence; rest = volume_rest; outside = left.outside }) (Ok mounted.volume) order.count order.strong made.volume;
+              journal_geo = on.0 ∙ is;
+              tables = on.1 ∙ ap₂ reading.tables_read is (last_image-write_back old now x);
+              right = made.right;
+              held = made.held;
+              journal_serves = mount_files mounted.files.journal made.journal.0 made.journal.1 parts.2;
+              settled = made.settled;
+              events = made.events;
+              room = made.room;
+              order = subst (λ g. IsInOrder g new) (sym made.sizes) (in_order-outside geo (IsOfLogs geo) now new order left.outside);
+            }
 
 -- what is mounted can be used, where what the map names is durable
 pub usable : (old new : Medium) (r : Result Mounted MountFault) → HasDurableBlocks old → (HasDurableBlocks old → IfOk r (λ mounted. BlocksServe mounted.blocks new)) → IfOk r (λ mounted. IsTrue mounted.blocks.settled → BlocksServe mounted.blocks new)

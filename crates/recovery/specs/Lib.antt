@@ -3,3 +3,4 @@ pub mod Mounting
 pub mod Examples
 pub mod Fresh
 pub mod Tables
+pub mod Calls

@@ -1,27 +1,19 @@
 // The logs of a device and the tables that they keep.
-ghost use Rattle.std.specs.Prelude.{◌≡◌, ◌+◌, ◌*◌, ◌/◌, ◌≤◌, List, None, true, IfErr, IfOk, IsTrue, OnOk, map, option_map};
+ghost use Rattle.std.specs.Prelude.{◌≡◌, ◌+◌, ◌*◌, ◌/◌, None, IfErr, IfOk, IsTrue, OnOk, map, option_map};
 ghost use Rattle.line_device.specs.Medium.{WritesBack, last_image};
 ghost use Rattle.line_device.specs.Panel.{Runs};
 ghost use Rattle.line_device.specs.Panel.Outcome.{went};
 ghost use Rattle.line_words.specs.Told.{IsStop};
 ghost use Rattle.word_tables.specs.Bounds.{IsValid};
-ghost use Rattle.nvm_model.specs.Events.{restart_events, weak_file_lines};
-ghost use Rattle.nvm_model.specs.Storage.{File};
 ghost use Rattle.word_log.specs.Mount.Finding.{wrong_word};
 ghost use Rattle.word_log.specs.Replay.{replayed};
 ghost use Rattle.word_log.specs.Rest.{IsAtRest};
-ghost use Rattle.block_map.specs.States.{word_of};
 ghost use Rattle.block_device.specs.Area.{block_area};
 ghost use Rattle.pm_volume.specs.Area.{volume_area};
-ghost use Rattle.pm_volume.specs.Presence.{presence_word};
 ghost use Rattle.file_journal.specs.Area.{file_area};
-ghost use Rattle.file_journal.specs.Reading.{tables_of};
-ghost use Rattle.file_journal.specs.Standing.{FilesStand};
-ghost use Rattle.file_journal.specs.Tables as file_tables;
-ghost use Rattle.file_journal.specs.Tables.{known_units};
 ghost use Rattle.recovery.specs.Findings.{wrong_log};
 ghost use Rattle.recovery.specs.Mounting.{Finds, IsInOrder, device_says, mount_outcome};
-ghost use Rattle.recovery.specs.Tables.{AreLogs, AreTables, LeavesLogs, ServesFiles, wrong_words};
+ghost use Rattle.recovery.specs.Tables.{AreLogs, AreOf, AreTables, LeavesLogs, ServesFiles, wrong_words};
 
 use crate::events::find_events;
 use crate::{MountFault, Mounted};
@@ -101,20 +93,7 @@ pub fn judge_tables<L: Lines>(
     requires valid { IsValid geo }
     requires logs { AreLogs geo tables }
     requires serves { ServesFiles geo (L.state dev.now).medium tables.file_words.items }
-    ensures geo { IfOk result (λ mounted. mounted.geo ≡ geo) }
-    ensures blocks { IfOk result (λ mounted. (mounted.blocks.geo ≡ geo) × (map word_of mounted.blocks.map ≡ tables.map.items)) }
-    ensures volume { IfOk result (λ mounted. (mounted.volume.geo ≡ geo) × (map presence_word mounted.volume.present ≡ tables.presence.items)) }
-    ensures journal { IfOk result (λ mounted. (mounted.files.journal.geo ≡ geo) × (mounted.files.journal.tables ≡ tables_of tables.file_words.items)) }
-    ensures tables { IfOk result (λ mounted. file_tables.AreTables mounted.geo.fpages mounted.files.journal.tables) }
-    ensures held { IfOk result (λ mounted. known_units mounted.files.journal.tables.pages mounted.files.journal.free ≡ mounted.geo.fpages) }
-    ensures settled { IfOk result (λ mounted. IsTrue mounted.blocks.settled × IsTrue mounted.volume.settled
-        × IsTrue mounted.files.journal.settled × IsTrue mounted.files.settled) }
-    ensures events { IfOk result (λ mounted. (all : List File)
-        → FilesStand mounted.files.journal.geo (L.state dev.now).medium mounted.files.journal.tables all
-        → mounted.events.items ≡ restart_events all) }
-    ensures room { IfOk result (λ mounted. (all : List File)
-        → FilesStand mounted.files.journal.geo (L.state dev.now).medium mounted.files.journal.tables all
-        → weak_file_lines all ≤ mounted.events.spare) }
+    ensures made { IfOk result (AreOf geo (L.state dev.now).medium tables) }
     ensures finds { Finds (option_map wrong_word (wrong_words geo tables.map.items tables.presence.items tables.file_words.items)) result }
     ensures went { mount_outcome result ≡ went }
 {

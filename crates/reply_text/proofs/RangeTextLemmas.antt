@@ -8,7 +8,7 @@ use Rattle.nvm_base.specs.declared.units.Span.{Span}
 use Rattle.reply_text.specs.Answer.{range_text, ranges_text}
 use Rattle.reply_text.specs.Room.{HasStart}
 
-abbrev len : Span → ℕ
+abbrev pub len : Span → ℕ
 len range = range.len
 
 length-three : (a b c : List ℕ) → length a ≤ 20 → length b ≤ 20 → length c ≤ 20 → length (32 ∷ a ++ 32 ∷ b ++ 32 ∷ c) ≤ 63

@@ -25,6 +25,7 @@ use Rattle.reply_text.specs.declared.reply.Why.{Why}
 use Rattle.reply_text.specs.declared.reply.Why.TheVariants as why
 use Rattle.reply_text.proofs.ReadLemmas.{number_in, number_in-decimal, bytes_in, ranges_in, file_in, files_in, why_in, answer_in}
 use Rattle.reply_text.proofs.SpokenLemmas.{is_visible, are_visible, decimal-visible, data_text-visible, name-visible, split-joined, joined-unended, spaced, spaced-joined}
+use Rattle.reply_text.proofs.RangeTextLemmas.{len}
 
 -- the words of an answer's text, and that the answer is read in them
 record Told (answer : Answer) : Type 0 where
@@ -44,9 +45,6 @@ bytes-back (byte ∷ bytes) few small =
     go : (text : List ℕ) → 0 < length text → data_within 4294967296 text ≡ Ok (byte ∷ bytes) → bytes_in text ≡ byte ∷ bytes
     go [] some is = absurd (omega arith)
     go (c ∷ cs) some is = ap (λ r. result_unwrap_or r []) is
-
-abbrev len : Span → ℕ
-len range = range.len
 
 -- three words a range
 range_words : ℕ → List Span → List (List ℕ)

@@ -7,6 +7,7 @@ use Rattle.std.proofs.lemmas.List.Sums.{prefix_len-le-length, prefix_len_passes,
 use Rattle.std.specs.List.{slice_split, position_or_len}
 use Rattle.std.specs.Option.{unwrap_or}
 use Rattle.script_text.specs.Script.{is_blank, words_of}
+use Rattle.nvm_base.proofs.SplitLemmas.{fails}
 
 -- the pieces between bytes that pass the test
 abbrev pieces : (ℕ → Bool) → List ℕ → List (List ℕ)
@@ -23,15 +24,11 @@ skip : (p : ℕ → Bool) (text : List ℕ) → pieces p (drop (position_or_len 
 skip p [] = refl
 skip p (c ∷ cs) = skip_step p (p c) c _ cs refl (skip p cs)
 
-passes : (b : Bool) → not b ≡ false → b ≡ true
+pub passes : (b : Bool) → not b ≡ false → b ≡ true
 passes true e = refl
 passes false e = absurd (cc)
 
-fails : (b : Bool) → not b ≡ true → b ≡ false
-fails false e = refl
-fails true e = absurd (cc)
-
-full : (word : List ℕ) (parts : List (List ℕ)) → 0 < length word → filter (λ w. nat_lt 0 (length w)) (word ∷ parts) ≡ word ∷ filter (λ w. nat_lt 0 (length w)) parts
+pub full : (word : List ℕ) (parts : List (List ℕ)) → 0 < length word → filter (λ w. nat_lt 0 (length w)) (word ∷ parts) ≡ word ∷ filter (λ w. nat_lt 0 (length w)) parts
 full word parts some =
     let e : nat_lt 0 (length word) ≡ true = search (rules, tests) in
     rw (e, filter) refl

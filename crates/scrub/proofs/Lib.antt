@@ -8,3 +8,4 @@ pub mod FilePlaceLemmas
 pub mod FileChangedLemmas
 pub mod UnitLemmas
 pub mod LostLemmas
+mod MarkLemmas

@@ -22,6 +22,7 @@ use Rattle.sights.specs.Changing.{line_changed, persisted_at, volume_change}
 use Rattle.sights.specs.Seeing.{seen}
 use Rattle.sights.proofs.AsideLemmas.{IsAside, by_mapping, flush_aside, load_aside, map_aside, store_aside}
 use Rattle.sights.proofs.SeenLemmas.{seen-change, seen-discard, seen-persist, seen-put}
+pub use Rattle.nvm_base.proofs.FirstLemmas.{not_mapped as none_mapped}
 
 pub none_first : {A : Type 0} (a b : Option A) → first_there a b ≡ None → a ≡ None
 none_first None b is = refl
@@ -30,10 +31,6 @@ none_first (Some x) b is = is
 pub none_second : {A : Type 0} (a b : Option A) → first_there a b ≡ None → b ≡ None
 none_second None b is = is
 none_second (Some x) b is = cc is
-
-pub none_mapped : {A B : Type 0} (f : A → B) (o : Option A) → option_map f o ≡ None → o ≡ None
-none_mapped f None is = refl
-none_mapped f (Some x) is = cc is
 
 -- no place is wrong of what is not refused
 pub places_right : (h : Machine) (action : Action) → refusal h action ≡ None → ((meaning action).reasons h).places ≡ None
@@ -44,7 +41,7 @@ places_right h action allowed =
     (none_second r.named _ (none_second (mode_refusal h.mode h.bad_meta (meaning action).needs) _ allowed))
 
 -- so a line that is marked is there
-line_found : (past : Bool) (o : Option Cell) → cond past (Some Range) (cell_refusal o) ≡ None → (cell : Cell) × (o ≡ Some cell)
+pub line_found : (past : Bool) (o : Option Cell) → cond past (Some Range) (cell_refusal o) ≡ None → (cell : Cell) × (o ≡ Some cell)
 line_found true o is = cc is
 line_found false None is = cc is
 line_found false (Some cell) is = (cell, refl)
@@ -55,7 +52,7 @@ placed h action offset is allowed =
     line_found (nat_le (4096 * h.geometry.vpages) offset) (cell_of h.volume (offset / 64))
     (none_mapped line_answer (place_refusal h.geometry h.volume offset) (sym is ∙ places_right h action allowed))
 
-bad_found : (past : Bool) (o : Option Cell) → cond past (Some Range) (line_refusal o) ≡ None → (cell : Cell) × (o ≡ Some cell)
+pub bad_found : (past : Bool) (o : Option Cell) → cond past (Some Range) (line_refusal o) ≡ None → (cell : Cell) × (o ≡ Some cell)
 bad_found true o is = cc is
 bad_found false None is = cc is
 bad_found false (Some cell) is = (cell, refl)

@@ -20,6 +20,6 @@ pub use line_seen::LineSeen;
 pub use lines_fit::{
     agree, agrees, allows_bad, allows_good, byte_in, is_among, line_fits, touches,
 };
-pub use replies::{MOST_BLOCKS, is_reply_of_bytes, may_be_replies, most_refusal};
+pub use replies::{is_reply_of_bytes, may_be_replies, most_refusal};
 pub use unit::{Unit, all_fit, change_all, fit_inside, page_fits};
 pub use way::Way;

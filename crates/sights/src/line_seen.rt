@@ -8,13 +8,10 @@ use crate::lines_fit::{is_among, line_fits};
 use crate::unit::Unit;
 use asked_reads::Question;
 use line_histories::HeldLine;
-use nvm_base::{LINE, PAGE};
+use nvm_base::{LINE, PAGE_LINES};
 use script_text::Command;
 use std::alloc::AllocError;
 use word_tables::Geometry;
-
-/// Lines of a page.
-const PAGE_LINES: u64 = PAGE / LINE;
 
 /// The line of that number, with each value that its words may have.
 #[derive(Drop)]

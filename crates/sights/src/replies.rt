@@ -10,7 +10,7 @@ ghost use Rattle.asked_reads.specs.Reads.{block_read, blocks_asked, file_reads_a
 
 use crate::lines_fit::touches;
 use asked_reads::{BlockRead, BlockReply, FileRead, PageRead, PageReply, Question};
-use nvm_base::{BLOCK, LINE, PAGE};
+use nvm_base::{BLOCK, LINE, MOST_READ, PAGE};
 use reply_text::Why;
 use word_tables::Geometry;
 
@@ -18,7 +18,6 @@ use word_tables::Geometry;
 const MOST_BYTES: u64 = 65536;
 
 /// Most blocks that are read at once.
-pub const MOST_BLOCKS: u64 = 128;
 
 /// Whether each read may have its reply on some device of these sizes.
 pub fn may_be_replies(question: &Question, geometry: Geometry) -> bool
@@ -89,7 +88,7 @@ pub fn is_reply_of_bytes(read: &PageRead, size: u64) -> bool
 fn is_reply_of_blocks(read: &BlockRead, blocks: u64) -> bool
     ensures { result ≡ is_block_reply blocks (block_read read.now) }
 {
-    match most_refusal(MOST_BLOCKS, blocks, read.first, read.count) {
+    match most_refusal(MOST_READ, blocks, read.first, read.count) {
         None => match &read.reply {
             BlockReply::Shows(bytes) => {
                 bytes.len() / BLOCK == read.count && bytes.len() % BLOCK == 0

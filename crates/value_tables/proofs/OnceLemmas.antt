@@ -59,7 +59,7 @@ any_value f w found (cell ∷ cells) =
     ∙ or_apart (list_any f found) (list_any f (history_of w cell)) (list_any (λ c. list_any f (history_of w c)) cells)
 
 -- reads see the same of what is the same
-same_is : (x y : Sight) → same_sight x y ≡ true → x ≡ y
+pub same_is : (x y : Sight) → same_sight x y ≡ true → x ≡ y
 same_is (Whole bytes) (Whole others) is = ap Whole ((bytes_eq-Decides bytes others).0 is)
 same_is (Whole bytes) Scar is = cc is
 same_is (Whole bytes) (BadLine line) is = cc is

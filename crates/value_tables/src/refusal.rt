@@ -4,8 +4,8 @@ ghost use Rattle.cut_places.specs.MachineModel.Meaning.{most_refusal};
 ghost use Rattle.value_tables.specs.Rows.{read_refusal};
 
 use cut_places::reads_asked::Read;
-use cut_places::sights_seen::{MOST_BLOCKS, most_refusal};
-use nvm_base::{MOST, PAGE};
+use cut_places::sights_seen::most_refusal;
+use nvm_base::{MOST, MOST_READ, PAGE};
 use reply_text::Why;
 use word_tables::Geometry;
 
@@ -17,7 +17,7 @@ pub fn read_refusal(geometry: Geometry, read: &Read) -> Option<Why>
     match read {
         Read::Volume { start, len } => most_refusal(MOST, PAGE * geometry.vpages, *start, *len),
         Read::Blocks { first, count } => {
-            most_refusal(MOST_BLOCKS, geometry.blocks, u64::from(*first), *count)
+            most_refusal(MOST_READ, geometry.blocks, u64::from(*first), *count)
         }
         Read::File { len, .. } => length_refusal(*len),
     }

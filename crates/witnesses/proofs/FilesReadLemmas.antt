@@ -38,7 +38,7 @@ all_flat test f (x ∷ xs) each =
     list_all-append test (f x) (flat_map f xs)
     ∙ and_from (list_all test (f x)) (list_all test (flat_map f xs)) (each x (inl refl)) (all_flat test f xs (λ y is. each y (inr is)))
 
-map_among : {A B : Type 0} (f g : A → B) (xs : List A) → ((x : A) → IsAmong x xs → f x ≡ g x) → map f xs ≡ map g xs
+pub map_among : {A B : Type 0} (f g : A → B) (xs : List A) → ((x : A) → IsAmong x xs → f x ≡ g x) → map f xs ≡ map g xs
 map_among f g [] same = refl
 map_among f g (x ∷ xs) same = ap (λ y. y ∷ map f xs) (same x (inl refl)) ∙ ap (λ ys. g x ∷ ys) (map_among f g xs (λ y is. same y (inr is)))
 

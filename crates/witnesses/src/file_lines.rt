@@ -12,11 +12,8 @@ use crate::words::{free_words, line_left};
 use cut_places::FileSeen;
 use cut_places::reads_asked::FileRead;
 use line_histories::HeldLine;
-use nvm_base::{LINE, Name, PAGE, Span, lines_of};
+use nvm_base::{Name, PAGE_LINES, Span, lines_of};
 use std::alloc::AllocError;
-
-/// Lines of a page.
-const PAGE_LINES: u64 = PAGE / LINE;
 
 /// Adds those that the span touches and that exist.
 pub fn keep_lines(

@@ -4,7 +4,7 @@ ghost use Rattle.word_tables.specs.Bounds.{IsValid};
 ghost use Rattle.word_tables.specs.Layout.{IsLaidOut, Area, block_log, block_map, volume_log, presence, file_log, inodes, page_tables, blocks, second_range, file_pages, first_line, size, meta_lines, total_lines, lines_in, block_line, file_line};
 
 use crate::Geometry;
-use nvm_base::Span;
+use nvm_base::{PAGE_LINES, Span};
 
 const BLOCK_LOG: Span = Span { start: 1, len: 17 };
 
@@ -17,8 +17,6 @@ const INODE_LINES: u64 = 64;
 const PAGE_TABLE_LINES: u64 = 2048;
 
 const BLOCK_LINES: u64 = 8;
-
-pub(crate) const PAGE_LINES: u64 = 64;
 
 /// Physical blocks beyond the logical ones, so that an atomic write of 64 blocks finds room.
 const EXTRA_BLOCKS: u64 = 64;

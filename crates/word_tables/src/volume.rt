@@ -4,8 +4,7 @@ ghost use Rattle.word_tables.specs.Bounds.{IsValid};
 ghost use Rattle.word_tables.specs.Layout.{IsSpread, first_range, second_range, total_lines, bytes_in, volume_line};
 
 use crate::Geometry;
-use crate::areas::PAGE_LINES;
-use nvm_base::{LINE, Span};
+use nvm_base::{LINE, PAGE_LINES, Span};
 
 #[tactic(auto, unfolding(crate::specs::Layout::first_line, crate::specs::Layout::size, crate::specs::Layout::total_lines, crate::specs::Layout::volume_line))]
 impl Geometry {

@@ -11,8 +11,7 @@ use super::Performer;
 use crate::outcome::Outcome;
 use line_device::LineDevice;
 use machine_model::Look;
-use nvm_base::{BLOCK, LINE, MOST, Span};
-use page_table::INODES;
+use nvm_base::{BLOCK, INODES, LINE, MOST, Span};
 use script_text::Command;
 use std::alloc::AllocError;
 

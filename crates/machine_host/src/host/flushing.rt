@@ -32,11 +32,10 @@ use line_device::LineDevice;
 use line_words::Interruption;
 use machine_model::Look;
 use mappings::MapInfo;
-use nvm_base::{Kind, Name, Span};
+use nvm_base::{Kind, MOST_SPANS, Name, Span};
 use reply_text::{Reply, Why};
 
 /// Most spans that are made durable together.
-const MOST_SPANS: usize = 8;
 
 impl Performer {
     // Makes spans of a mapping durable. A private one is no part of the device.

@@ -14,13 +14,12 @@ use crate::Mode;
 use line_device::LineDevice;
 use line_words::first_bad;
 use machine_model::Needs;
-use nvm_base::{MOST, PAGE};
+use nvm_base::{MOST, MOST_READ, PAGE};
 use reply_text::{Reply, Why};
 use script_text::Command;
 use word_tables::Geometry;
 
 /// Most blocks that are read at once.
-const MOST_BLOCKS: u64 = 128;
 
 #[tactic(auto, unfolding(machine_model::specs::Commands::early_refusal))]
 impl Performer {
@@ -139,7 +138,7 @@ fn place_refusal(geo: Geometry, command: &Command) -> Option<Why>
     ensures { result ≡ (meaning (action_of command.now)).checked geo }
 {
     match command {
-        Command::BRead { block, count } => most_refusal(geo.blocks, *block, *count, MOST_BLOCKS),
+        Command::BRead { block, count } => most_refusal(geo.blocks, *block, *count, MOST_READ),
         Command::VLoad { offset, len } => most_refusal(PAGE * geo.vpages, *offset, *len, MOST),
         Command::PoisonMeta { line } => (*line >= geo.meta_lines()).then_some(Why::Range),
         Command::CutIn { calls } | Command::FailIn { calls } => {

@@ -13,4 +13,4 @@ returns-clause-refused g c pages holds =
 pub returns-clause-ok : goal.returns-clause-ok
 returns-clause-ok g c pages holds =
     line-data c.args.volume.now pages c.args.line c.requires.within c.load_into.new.out c.in_ok-load_into.field-0 (c.in_ok-load_into.ensures.refused pages holds)
-    (c.in_ok-load_into.ensures.ok pages holds)
+    (c.in_ok-load_into.ensures.loads.ok pages holds)

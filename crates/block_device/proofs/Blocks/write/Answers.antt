@@ -1,16 +1,20 @@
-use Rattle.std.proofs.Common.{subst}
-use Rattle.line_words.proofs.BesideLemmas.{beside-refl}
-use Rattle.block_device.specs.Object.{BlocksState, HasGoodMetadata}
-use Rattle.block_device.proofs.PassedLemmas.{meta_passed}
+use Rattle.std.proofs.Common.{length}
+use Rattle.nvm_model.specs.Blocks.{IsMixed, write}
+use Rattle.block_device.specs.Object.{BlocksState}
+use Rattle.block_device.specs.Refusals.{bytes_refusal}
+use Rattle.block_device.proofs.CallLemmas.{refused_first, refused_meta}
 use Rattle.block_device.proofs.Blocks.write.Goals as goal
 
-pub returns-in_err-check_bytes-clause-outside : goal.returns-in_err-check_bytes-clause-outside
-returns-in_err-check_bytes-clause-outside g c = beside-refl _ _
+pub returns-in_err-check_bytes : goal.returns-in_err-check_bytes
+returns-in_err-check_bytes g c = record {
+  changes =
+      refused_first g.L.Lines.state _ c.args.self.now c.self.view_is c.args.dev.now c.requires.ready (λ (s : BlocksState). bytes_refusal s.geo.blocks c.args.block (length c.args.bytes.now)) (write c.args.block c.args.bytes.now) IsMixed _ _
+      c.from_residual.result c.in_err-check_bytes.field-0.0 c.from_residual.ensures.1 c.in_err-check_bytes.ensures;
+}
 
-pub returns-in_err-check_meta-clause-outside : goal.returns-in_err-check_meta-clause-outside
-returns-in_err-check_meta-clause-outside g c = beside-refl _ _
-
-pub write_blocks-requires-clause-good : goal.write_blocks-requires-clause-good
-write_blocks-requires-clause-good g c =
-    let m = (g.L.Lines.state c.args.dev.now).medium in
-    subst (λ (s : BlocksState). HasGoodMetadata s.geo m) c.self.view_is (meta_passed c.self.inside.geo m _ c.in_ok-check_meta.ensures)
+pub returns-in_err-check_meta : goal.returns-in_err-check_meta
+returns-in_err-check_meta g c = record {
+  changes =
+      refused_meta g.L.Lines.state _ c.args.self.now c.self.view_is c.args.dev.now c.requires.ready (λ (s : BlocksState). bytes_refusal s.geo.blocks c.args.block (length c.args.bytes.now)) (write c.args.block c.args.bytes.now) IsMixed _ _
+      c.from_residual-in_err-check_meta.result c.in_err-check_meta.field-0.0 c.from_residual-in_err-check_meta.ensures.1 c.in_ok-check_bytes.field-0 c.in_ok-check_bytes.ensures c.in_err-check_meta.ensures;
+}

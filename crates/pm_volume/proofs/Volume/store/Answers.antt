@@ -1,76 +1,39 @@
-use Rattle.std.proofs.Common.{List, inr, length, ◌∙◌, ap, subst}
-use Rattle.line_words.proofs.ToldLemmas.{on_worked}
-use Rattle.nvm_model.specs.Interrupted.{MayStore}
-use Rattle.nvm_model.specs.Page.{Page, fill}
-use Rattle.page_lines.proofs.OthersLemmas.{others-refl, others-trans}
-use Rattle.page_lines.specs.Turns.{WritesBackOthers}
-use Rattle.word_tables.specs.declared.geometry.Geometry.{Geometry}
-use Rattle.pm_volume.specs.Area.{IsOfVolume}
-use Rattle.pm_volume.specs.Images.{EachReadsPages}
-use Rattle.pm_volume.specs.Object.{KeepsMarks, VolumeHolds, VolumeState}
-use Rattle.pm_volume.specs.Refusals.{volume_says}
-use Rattle.pm_volume.proofs.MarkLemmas.{marks-trans}
-use Rattle.pm_volume.proofs.ServesLemmas.{holds-same}
-use Rattle.pm_volume.proofs.StoreLemmas.{may_store-filled, reads-then}
-use Rattle.pm_volume.proofs.Volume.store.Given as given
+use Rattle.std.proofs.Common.{length, le-add_left, le_refl}
+use Rattle.line_device.proofs.PanelLemmas.{runs_within}
+use Rattle.pm_volume.specs.Costs.{store_calls, store_persists}
+use Rattle.pm_volume.specs.Object.{VolumeState}
+use Rattle.pm_volume.proofs.CallLemmas.{changes-done, changes-refused, changes-stopped}
+use Rattle.pm_volume.proofs.StandingLemmas.{each_pages-then}
+use Rattle.pm_volume.proofs.StoreLemmas.{may_store-filled, stored-works}
 use Rattle.pm_volume.proofs.Volume.store.Goals as goal
-use Rattle.pm_volume.proofs.Volume.store.Goals.{After-put}
 
-images : (g : given.Over) (c : goal.After-put g) → (pages : List Page) → VolumeHolds c.args.self.now (g.L.Lines.state c.args.dev.now).medium pages → EachReadsPages c.args.self.now.geo (g.L.Lines.state c.put.new.dev).medium (MayStore c.args.offset c.args.bytes.now pages)
-images g c = λ pages holds.
-    let old = (g.L.Lines.state c.args.dev.now).medium in
-    let new = (g.L.Lines.state c.put.new.dev).medium in
-    subst (λ (geo : Geometry). EachReadsPages geo new (MayStore c.args.offset c.args.bytes.now pages)) (c.fill.ensures.object.0 ∙ ap (λ (t : VolumeState). t.geo) c.self.view_is)
-    (reads-then c.fill.new.self.geo new _ _ (λ left is. inr is)
-    (c.put.ensures.images (fill c.args.offset (length c.args.bytes.now) pages)
-    (c.in_ok-fill.ensures.ok pages (holds-same c.args.self.now _ old pages (ap (λ (t : VolumeState). t.geo) c.self.view_is) (ap (λ (t : VolumeState). t.present) c.self.view_is) holds))))
+pub returns-in_err-check_store-clause-changes : goal.returns-in_err-check_store-clause-changes
+returns-in_err-check_store-clause-changes g c =
+    changes-refused g.L.Lines.state c.args.self.now c.args.dev.now c.requires.ready _ c.in_err-check_store.field-0.0 _ c.from_residual.ensures.1 c.in_err-check_store.ensures.refused _ _ _ _
 
-outside : (g : given.Over) (c : goal.After-put g) → WritesBackOthers (IsOfVolume c.args.self.now.geo) (g.L.Lines.state c.args.dev.now).medium (g.L.Lines.state c.put.new.dev).medium
-outside g c =
-    let old = (g.L.Lines.state c.args.dev.now).medium in
-    let mid = (g.L.Lines.state c.fill.new.dev).medium in
-    let new = (g.L.Lines.state c.put.new.dev).medium in
-    others-trans (IsOfVolume c.args.self.now.geo) old mid new
-    (subst (λ (t : VolumeState). WritesBackOthers (IsOfVolume t.geo) old mid) c.self.view_is c.fill.ensures.outside)
-    (subst (λ (geo : Geometry). WritesBackOthers (IsOfVolume geo) mid new) (c.fill.ensures.object.0 ∙ ap (λ (t : VolumeState). t.geo) c.self.view_is) c.put.ensures.outside)
+pub returns-in_err-fill-clause-changes : goal.returns-in_err-fill-clause-changes
+returns-in_err-fill-clause-changes g c =
+    let x = c.in_err-fill.ensures.works in
+    let len = length c.args.bytes.now in
+    changes-stopped g.L.Lines.state _ c.args.self.now _ c.self.view_is _ _ _ _ (λ (s : VolumeState). store_calls s.present c.args.offset len) (λ (s : VolumeState). store_persists s.present c.args.offset len) c.in_err-fill.field-0.0 _ c.from_residual-in_err-fill.ensures.1
+    (record {
+      ok = tt;
+      images = λ pages holds. each_pages-then _ _ _ _ (may_store-filled c.args.offset c.args.bytes.now pages) (x.images pages holds);
+      outside = x.outside;
+      metadata = x.metadata;
+      serves = tt;
+      object = x.object;
+      runs = runs_within _ _ _ _ _ _ _ x.runs (le-add_left _ _) (le_refl _);
+    })
 
-metadata : (g : given.Over) (c : goal.After-put g) → KeepsMarks c.args.self.now.geo (g.L.Lines.state c.args.dev.now).medium (g.L.Lines.state c.put.new.dev).medium
-metadata g c =
-    let old = (g.L.Lines.state c.args.dev.now).medium in
-    let mid = (g.L.Lines.state c.fill.new.dev).medium in
-    let new = (g.L.Lines.state c.put.new.dev).medium in
-    marks-trans c.args.self.now.geo old mid new
-    (subst (λ (t : VolumeState). KeepsMarks t.geo old mid) c.self.view_is c.fill.ensures.metadata)
-    (subst (λ (geo : Geometry). KeepsMarks geo mid new) (c.fill.ensures.object.0 ∙ ap (λ (t : VolumeState). t.geo) c.self.view_is) c.put.ensures.metadata)
+pub returns-in_err-put-clause-changes : goal.returns-in_err-put-clause-changes
+returns-in_err-put-clause-changes g c =
+    let len = length c.args.bytes.now in
+    changes-stopped g.L.Lines.state _ c.args.self.now _ c.self.view_is _ _ _ _ (λ (s : VolumeState). store_calls s.present c.args.offset len) (λ (s : VolumeState). store_persists s.present c.args.offset len) c.in_err-put.field-0.0 _ c.from_residual-in_err-put.ensures.1
+    (stored-works _ _ _ _ _ c.args.offset c.args.bytes.now tt _ c.in_ok-fill.ensures.works c.in_err-put.ensures.works)
 
-pub returns-in_err-check_store-clause-outside : goal.returns-in_err-check_store-clause-outside
-returns-in_err-check_store-clause-outside g c = others-refl _ _
-
-pub returns-in_err-fill-clause-images : goal.returns-in_err-fill-clause-images
-returns-in_err-fill-clause-images g c =
-    let old = (g.L.Lines.state c.args.dev.now).medium in
-    let new = (g.L.Lines.state c.fill.new.dev).medium in
-    on_worked volume_says c.from_residual-in_err-fill.result
-    (λ pages holds.
-    subst (λ (t : VolumeState). EachReadsPages t.geo new (MayStore c.args.offset c.args.bytes.now pages)) c.self.view_is
-    (reads-then c.self.inside.geo new _ _ (may_store-filled c.args.offset c.args.bytes.now pages)
-    (c.fill.ensures.images pages (holds-same c.args.self.now _ old pages (ap (λ (t : VolumeState). t.geo) c.self.view_is) (ap (λ (t : VolumeState). t.present) c.self.view_is) holds))))
-
-pub returns-in_err-put-clause-images : goal.returns-in_err-put-clause-images
-returns-in_err-put-clause-images g c =
-    on_worked volume_says c.from_residual-in_err-put.result (images g (goal.at.returns-in_err-put-clause-images g c).After-put)
-
-pub returns-in_err-put-clause-outside : goal.returns-in_err-put-clause-outside
-returns-in_err-put-clause-outside g c = outside g (goal.at.returns-in_err-put-clause-outside g c).After-put
-
-pub returns-in_err-put-clause-metadata : goal.returns-in_err-put-clause-metadata
-returns-in_err-put-clause-metadata g c = metadata g (goal.at.returns-in_err-put-clause-metadata g c).After-put
-
-pub returns-clause-images : goal.returns-clause-images
-returns-clause-images g c = images g (goal.at.returns-clause-images g c).After-put
-
-pub returns-clause-outside : goal.returns-clause-outside
-returns-clause-outside g c = outside g (goal.at.returns-clause-outside g c).After-put
-
-pub returns-clause-metadata : goal.returns-clause-metadata
-returns-clause-metadata g c = metadata g (goal.at.returns-clause-metadata g c).After-put
+pub returns-clause-changes : goal.returns-clause-changes
+returns-clause-changes g c =
+    let len = length c.args.bytes.now in
+    changes-done g.L.Lines.state _ c.args.self.now _ c.self.view_is _ _ _ _ (λ (s : VolumeState). store_calls s.present c.args.offset len) (λ (s : VolumeState). store_persists s.present c.args.offset len) tt _ c.self-2.view_is
+    (stored-works _ _ _ _ _ c.args.offset c.args.bytes.now tt _ c.in_ok-fill.ensures.works c.in_ok-put.ensures.works)

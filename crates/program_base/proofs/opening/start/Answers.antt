@@ -16,4 +16,4 @@ returns-clause-mounts g c =
     let shown = image_of image.unit image.lines in
     let shows : Depicts mid.medium shown = subst (λ (m : Medium). Depicts m shown) (sym is) (depicted image.unit image.lines) in
     mounts image c.in_ok-mount.field-0 (g.D.Lines.state c.args.device.now) mid (g.D.Lines.state c.mount.new.device)
-    is c.in_ok-install.ensures.sets_up done.finds done.lines.count done.serves (done.stands shown shows refl) done.runs
+    is c.in_ok-install.ensures.sets_up done.finds done.leaves.outside.count done.serves (done.stands shown shows refl) done.runs

@@ -38,7 +38,7 @@ returns-in_err-block_log-clause-left g c =
     let geo = c.args.geo in
     let old = (g.L.Lines.state c.args.dev.now).medium in
     let mid = (g.L.Lines.state c.mount_words.new.dev).medium in
-    leaves_one geo c.requires.order.valid c.block_area.result (inl c.block_area.ensures) old mid c.in_err-block_log.ensures.images c.in_err-block_log.ensures.closed c.in_err-block_log.ensures.outside
+    leaves_one geo c.requires.order.valid c.block_area.result (inl c.block_area.ensures) old mid c.in_err-block_log.ensures.leaves
 
 pub returns-in_err-block_log-clause-runs : goal.returns-in_err-block_log-clause-runs
 returns-in_err-block_log-clause-runs g c =
@@ -52,22 +52,22 @@ mount_words-requires-2-clause-fits g c =
     let geo = c.args.geo in
     let old = (g.L.Lines.state c.args.dev.now).medium in
     let mid = (g.L.Lines.state c.mount_words.new.dev).medium in
-    log_fits geo c.volume_area.result (inr (inl c.volume_area.ensures)) mid (mid_order geo old mid c.requires.order c.requires.right c.block_area.result c.block_area.ensures c.in_ok-block_log.ensures.outside)
+    log_fits geo c.volume_area.result (inr (inl c.volume_area.ensures)) mid (mid_order geo old mid c.requires.order c.requires.right c.block_area.result c.block_area.ensures c.in_ok-block_log.ensures.leaves.outside)
 
 pub mount_words-requires-2-clause-strong : goal.mount_words-requires-2-clause-strong
 mount_words-requires-2-clause-strong g c =
     let geo = c.args.geo in
     let old = (g.L.Lines.state c.args.dev.now).medium in
     let mid = (g.L.Lines.state c.mount_words.new.dev).medium in
-    log_strong geo c.volume_area.result (inr (inl c.volume_area.ensures)) mid (mid_order geo old mid c.requires.order c.requires.right c.block_area.result c.block_area.ensures c.in_ok-block_log.ensures.outside)
+    log_strong geo c.volume_area.result (inr (inl c.volume_area.ensures)) mid (mid_order geo old mid c.requires.order c.requires.right c.block_area.result c.block_area.ensures c.in_ok-block_log.ensures.leaves.outside)
 
 pub returns-in_err-volume_log-clause-stop : goal.returns-in_err-volume_log-clause-stop
 returns-in_err-volume_log-clause-stop g c =
     let geo = c.args.geo in
     let old = (g.L.Lines.state c.args.dev.now).medium in
     let mid = (g.L.Lines.state c.mount_words.new.dev).medium in
-    not_refused c.from_residual-in_err-volume_log.result (says c.in_err-volume_log.field-0.0) c.volume_area.result mid c.from_residual-in_err-volume_log.ensures.1 (log_whole geo c.volume_area.result (inr (inl c.volume_area.ensures)) mid (mid_order geo old mid c.requires.order c.requires.right c.block_area.result c.block_area.ensures c.in_ok-block_log.ensures.outside))
-    (right_at c.volume_area.result (volume_area geo) (last_image mid) c.volume_area.ensures (volume_right geo old mid c.requires.order c.requires.right c.block_area.result c.block_area.ensures c.in_ok-block_log.ensures.outside)) c.in_err-volume_log.ensures.finds
+    not_refused c.from_residual-in_err-volume_log.result (says c.in_err-volume_log.field-0.0) c.volume_area.result mid c.from_residual-in_err-volume_log.ensures.1 (log_whole geo c.volume_area.result (inr (inl c.volume_area.ensures)) mid (mid_order geo old mid c.requires.order c.requires.right c.block_area.result c.block_area.ensures c.in_ok-block_log.ensures.leaves.outside))
+    (right_at c.volume_area.result (volume_area geo) (last_image mid) c.volume_area.ensures (volume_right geo old mid c.requires.order c.requires.right c.block_area.result c.block_area.ensures c.in_ok-block_log.ensures.leaves.outside)) c.in_err-volume_log.ensures.finds
 
 pub returns-in_err-volume_log-clause-left : goal.returns-in_err-volume_log-clause-left
 returns-in_err-volume_log-clause-left g c =
@@ -75,8 +75,8 @@ returns-in_err-volume_log-clause-left g c =
     let old = (g.L.Lines.state c.args.dev.now).medium in
     let mid = (g.L.Lines.state c.mount_words.new.dev).medium in
     let late = (g.L.Lines.state c.mount_words-2.new.dev).medium in
-    leaves-then geo c.requires.order.valid old mid late (leaves_one geo c.requires.order.valid c.block_area.result (inl c.block_area.ensures) old mid c.in_ok-block_log.ensures.images c.in_ok-block_log.ensures.closed c.in_ok-block_log.ensures.outside)
-    (leaves_one geo c.requires.order.valid c.volume_area.result (inr (inl c.volume_area.ensures)) mid late c.in_err-volume_log.ensures.images c.in_err-volume_log.ensures.closed c.in_err-volume_log.ensures.outside)
+    leaves-then geo c.requires.order.valid old mid late (leaves_one geo c.requires.order.valid c.block_area.result (inl c.block_area.ensures) old mid c.in_ok-block_log.ensures.leaves)
+    (leaves_one geo c.requires.order.valid c.volume_area.result (inr (inl c.volume_area.ensures)) mid late c.in_err-volume_log.ensures.leaves)
 
 pub returns-in_err-volume_log-clause-runs : goal.returns-in_err-volume_log-clause-runs
 returns-in_err-volume_log-clause-runs g c =
@@ -91,7 +91,7 @@ mount_words-requires-3-clause-fits g c =
     let old = (g.L.Lines.state c.args.dev.now).medium in
     let mid = (g.L.Lines.state c.mount_words.new.dev).medium in
     let late = (g.L.Lines.state c.mount_words-2.new.dev).medium in
-    log_fits geo c.file_area.result (inr (inr c.file_area.ensures)) late (late_order geo old mid c.requires.order c.requires.right c.block_area.result c.block_area.ensures c.in_ok-block_log.ensures.outside late c.volume_area.result c.volume_area.ensures c.in_ok-volume_log.ensures.outside)
+    log_fits geo c.file_area.result (inr (inr c.file_area.ensures)) late (late_order geo old mid c.requires.order c.requires.right c.block_area.result c.block_area.ensures c.in_ok-block_log.ensures.leaves.outside late c.volume_area.result c.volume_area.ensures c.in_ok-volume_log.ensures.leaves.outside)
 
 pub mount_words-requires-3-clause-strong : goal.mount_words-requires-3-clause-strong
 mount_words-requires-3-clause-strong g c =
@@ -99,7 +99,7 @@ mount_words-requires-3-clause-strong g c =
     let old = (g.L.Lines.state c.args.dev.now).medium in
     let mid = (g.L.Lines.state c.mount_words.new.dev).medium in
     let late = (g.L.Lines.state c.mount_words-2.new.dev).medium in
-    log_strong geo c.file_area.result (inr (inr c.file_area.ensures)) late (late_order geo old mid c.requires.order c.requires.right c.block_area.result c.block_area.ensures c.in_ok-block_log.ensures.outside late c.volume_area.result c.volume_area.ensures c.in_ok-volume_log.ensures.outside)
+    log_strong geo c.file_area.result (inr (inr c.file_area.ensures)) late (late_order geo old mid c.requires.order c.requires.right c.block_area.result c.block_area.ensures c.in_ok-block_log.ensures.leaves.outside late c.volume_area.result c.volume_area.ensures c.in_ok-volume_log.ensures.leaves.outside)
 
 pub returns-in_err-file_log-clause-stop : goal.returns-in_err-file_log-clause-stop
 returns-in_err-file_log-clause-stop g c =
@@ -107,8 +107,8 @@ returns-in_err-file_log-clause-stop g c =
     let old = (g.L.Lines.state c.args.dev.now).medium in
     let mid = (g.L.Lines.state c.mount_words.new.dev).medium in
     let late = (g.L.Lines.state c.mount_words-2.new.dev).medium in
-    not_refused c.from_residual-in_err-file_log.result (says c.in_err-file_log.field-0.0) c.file_area.result late c.from_residual-in_err-file_log.ensures.1 (log_whole geo c.file_area.result (inr (inr c.file_area.ensures)) late (late_order geo old mid c.requires.order c.requires.right c.block_area.result c.block_area.ensures c.in_ok-block_log.ensures.outside late c.volume_area.result c.volume_area.ensures c.in_ok-volume_log.ensures.outside))
-    (right_at c.file_area.result (file_area geo) (last_image late) c.file_area.ensures (files_right geo old mid c.requires.order c.requires.right c.block_area.result c.block_area.ensures c.in_ok-block_log.ensures.outside late c.volume_area.result c.volume_area.ensures c.in_ok-volume_log.ensures.outside)) c.in_err-file_log.ensures.finds
+    not_refused c.from_residual-in_err-file_log.result (says c.in_err-file_log.field-0.0) c.file_area.result late c.from_residual-in_err-file_log.ensures.1 (log_whole geo c.file_area.result (inr (inr c.file_area.ensures)) late (late_order geo old mid c.requires.order c.requires.right c.block_area.result c.block_area.ensures c.in_ok-block_log.ensures.leaves.outside late c.volume_area.result c.volume_area.ensures c.in_ok-volume_log.ensures.leaves.outside))
+    (right_at c.file_area.result (file_area geo) (last_image late) c.file_area.ensures (files_right geo old mid c.requires.order c.requires.right c.block_area.result c.block_area.ensures c.in_ok-block_log.ensures.leaves.outside late c.volume_area.result c.volume_area.ensures c.in_ok-volume_log.ensures.leaves.outside)) c.in_err-file_log.ensures.finds
 
 pub returns-in_err-file_log-clause-left : goal.returns-in_err-file_log-clause-left
 returns-in_err-file_log-clause-left g c =
@@ -118,9 +118,9 @@ returns-in_err-file_log-clause-left g c =
     let late = (g.L.Lines.state c.mount_words-2.new.dev).medium in
     let new = (g.L.Lines.state c.mount_words-3.new.dev).medium in
     leaves-then geo c.requires.order.valid old late new
-    (leaves-then geo c.requires.order.valid old mid late (leaves_one geo c.requires.order.valid c.block_area.result (inl c.block_area.ensures) old mid c.in_ok-block_log.ensures.images c.in_ok-block_log.ensures.closed c.in_ok-block_log.ensures.outside)
-    (leaves_one geo c.requires.order.valid c.volume_area.result (inr (inl c.volume_area.ensures)) mid late c.in_ok-volume_log.ensures.images c.in_ok-volume_log.ensures.closed c.in_ok-volume_log.ensures.outside))
-    (leaves_one geo c.requires.order.valid c.file_area.result (inr (inr c.file_area.ensures)) late new c.in_err-file_log.ensures.images c.in_err-file_log.ensures.closed c.in_err-file_log.ensures.outside)
+    (leaves-then geo c.requires.order.valid old mid late (leaves_one geo c.requires.order.valid c.block_area.result (inl c.block_area.ensures) old mid c.in_ok-block_log.ensures.leaves)
+    (leaves_one geo c.requires.order.valid c.volume_area.result (inr (inl c.volume_area.ensures)) mid late c.in_ok-volume_log.ensures.leaves))
+    (leaves_one geo c.requires.order.valid c.file_area.result (inr (inr c.file_area.ensures)) late new c.in_err-file_log.ensures.leaves)
 
 pub returns-in_err-file_log-clause-runs : goal.returns-in_err-file_log-clause-runs
 returns-in_err-file_log-clause-runs g c =
@@ -138,9 +138,9 @@ returns-clause-left g c =
     let late = (g.L.Lines.state c.mount_words-2.new.dev).medium in
     let new = (g.L.Lines.state c.mount_words-3.new.dev).medium in
     leaves-then geo c.requires.order.valid old late new
-    (leaves-then geo c.requires.order.valid old mid late (leaves_one geo c.requires.order.valid c.block_area.result (inl c.block_area.ensures) old mid c.in_ok-block_log.ensures.images c.in_ok-block_log.ensures.closed c.in_ok-block_log.ensures.outside)
-    (leaves_one geo c.requires.order.valid c.volume_area.result (inr (inl c.volume_area.ensures)) mid late c.in_ok-volume_log.ensures.images c.in_ok-volume_log.ensures.closed c.in_ok-volume_log.ensures.outside))
-    (leaves_one geo c.requires.order.valid c.file_area.result (inr (inr c.file_area.ensures)) late new c.in_ok-file_log.ensures.images c.in_ok-file_log.ensures.closed c.in_ok-file_log.ensures.outside)
+    (leaves-then geo c.requires.order.valid old mid late (leaves_one geo c.requires.order.valid c.block_area.result (inl c.block_area.ensures) old mid c.in_ok-block_log.ensures.leaves)
+    (leaves_one geo c.requires.order.valid c.volume_area.result (inr (inl c.volume_area.ensures)) mid late c.in_ok-volume_log.ensures.leaves))
+    (leaves_one geo c.requires.order.valid c.file_area.result (inr (inr c.file_area.ensures)) late new c.in_ok-file_log.ensures.leaves)
 
 pub returns-clause-runs : goal.returns-clause-runs
 returns-clause-runs g c =
@@ -157,11 +157,11 @@ returns-clause-tables g c =
     let late = (g.L.Lines.state c.mount_words-2.new.dev).medium in
     record {
       blocks = c.in_ok-block_log.ensures.log ∙ ap (λ (a : LogArea). record { area = a; settled = true }) c.block_area.ensures;
-      map = map_words geo old mid c.requires.order c.requires.right c.block_area.result c.block_area.ensures c.in_ok-block_log.ensures.outside c.in_ok-block_log.map.items c.in_ok-block_log.ensures.words;
+      map = map_words geo old mid c.requires.order c.requires.right c.block_area.result c.block_area.ensures c.in_ok-block_log.ensures.leaves.outside c.in_ok-block_log.map.items c.in_ok-block_log.ensures.words;
       volume = c.in_ok-volume_log.ensures.log ∙ ap (λ (a : LogArea). record { area = a; settled = true }) c.volume_area.ensures;
-      presence = presence_words geo old mid c.requires.order c.requires.right c.block_area.result c.block_area.ensures c.in_ok-block_log.ensures.outside late c.volume_area.result c.volume_area.ensures c.in_ok-volume_log.ensures.outside c.in_ok-volume_log.presence.items c.in_ok-volume_log.ensures.words;
+      presence = presence_words geo old mid c.requires.order c.requires.right c.block_area.result c.block_area.ensures c.in_ok-block_log.ensures.leaves.outside late c.volume_area.result c.volume_area.ensures c.in_ok-volume_log.ensures.leaves.outside c.in_ok-volume_log.presence.items c.in_ok-volume_log.ensures.words;
       files = c.in_ok-file_log.ensures.log ∙ ap (λ (a : LogArea). record { area = a; settled = true }) c.file_area.ensures;
-      file_words = file_words geo old mid c.requires.order c.requires.right c.block_area.result c.block_area.ensures c.in_ok-block_log.ensures.outside late c.volume_area.result c.volume_area.ensures c.in_ok-volume_log.ensures.outside c.file_area.result c.file_area.ensures c.in_ok-file_log.file_words.items c.in_ok-file_log.ensures.words;
+      file_words = file_words geo old mid c.requires.order c.requires.right c.block_area.result c.block_area.ensures c.in_ok-block_log.ensures.leaves.outside late c.volume_area.result c.volume_area.ensures c.in_ok-volume_log.ensures.leaves.outside c.file_area.result c.file_area.ensures c.in_ok-file_log.file_words.items c.in_ok-file_log.ensures.words;
     }
 
 pub returns-clause-blocks_rest : goal.returns-clause-blocks_rest
@@ -171,7 +171,7 @@ returns-clause-blocks_rest g c =
     let mid = (g.L.Lines.state c.mount_words.new.dev).medium in
     let late = (g.L.Lines.state c.mount_words-2.new.dev).medium in
     let new = (g.L.Lines.state c.mount_words-3.new.dev).medium in
-    blocks_rest geo old mid c.requires.order c.requires.right c.block_area.result c.block_area.ensures c.in_ok-block_log.ensures.outside late c.volume_area.result c.volume_area.ensures c.in_ok-volume_log.ensures.outside c.file_area.result c.file_area.ensures new c.in_ok-file_log.ensures.outside
+    blocks_rest geo old mid c.requires.order c.requires.right c.block_area.result c.block_area.ensures c.in_ok-block_log.ensures.leaves.outside late c.volume_area.result c.volume_area.ensures c.in_ok-volume_log.ensures.leaves.outside c.file_area.result c.file_area.ensures new c.in_ok-file_log.ensures.leaves.outside
     c.in_ok-block_log.ensures.rest
 
 pub returns-clause-volume_rest : goal.returns-clause-volume_rest
@@ -181,7 +181,7 @@ returns-clause-volume_rest g c =
     let mid = (g.L.Lines.state c.mount_words.new.dev).medium in
     let late = (g.L.Lines.state c.mount_words-2.new.dev).medium in
     let new = (g.L.Lines.state c.mount_words-3.new.dev).medium in
-    volume_rest geo old mid c.requires.order c.requires.right c.block_area.result c.block_area.ensures c.in_ok-block_log.ensures.outside late c.volume_area.result c.volume_area.ensures c.in_ok-volume_log.ensures.outside c.file_area.result c.file_area.ensures new c.in_ok-file_log.ensures.outside
+    volume_rest geo old mid c.requires.order c.requires.right c.block_area.result c.block_area.ensures c.in_ok-block_log.ensures.leaves.outside late c.volume_area.result c.volume_area.ensures c.in_ok-volume_log.ensures.leaves.outside c.file_area.result c.file_area.ensures new c.in_ok-file_log.ensures.leaves.outside
     c.in_ok-volume_log.ensures.rest
 
 pub returns-clause-files_rest : goal.returns-clause-files_rest
@@ -191,5 +191,5 @@ returns-clause-files_rest g c =
     let mid = (g.L.Lines.state c.mount_words.new.dev).medium in
     let late = (g.L.Lines.state c.mount_words-2.new.dev).medium in
     let new = (g.L.Lines.state c.mount_words-3.new.dev).medium in
-    files_rest geo old mid c.requires.order c.requires.right c.block_area.result c.block_area.ensures c.in_ok-block_log.ensures.outside late c.volume_area.result c.volume_area.ensures c.in_ok-volume_log.ensures.outside c.file_area.result c.file_area.ensures new c.in_ok-file_log.ensures.outside
+    files_rest geo old mid c.requires.order c.requires.right c.block_area.result c.block_area.ensures c.in_ok-block_log.ensures.leaves.outside late c.volume_area.result c.volume_area.ensures c.in_ok-volume_log.ensures.leaves.outside c.file_area.result c.file_area.ensures new c.in_ok-file_log.ensures.leaves.outside
     c.in_ok-file_log.ensures.rest

@@ -28,7 +28,7 @@ returns-in_err-line-clause-serves g c =
     serves-kept c.args.self.now _ (g.L.Lines.state c.args.dev.now).medium _
     (ap (λ (v : VolumeState). v.geo) c.load_line.ensures.object ∙ ap (λ (t : LogState). t.volume.geo) c.self.view_is)
     (ap (λ (v : VolumeState). v.present) c.load_line.ensures.object ∙ ap (λ (t : LogState). t.volume.present) c.self.view_is)
-    (ap (λ (t : LogState). t.len) c.self.view_is) c.load_line.ensures.lines c.load_line.ensures.serves c.requires.serves
+    (ap (λ (t : LogState). t.len) c.self.view_is) c.load_line.ensures.lines c.load_line.ensures.serves c.requires.open.serves
 
 pub returns-clause-refused : goal.returns-clause-refused
 returns-clause-refused g c =
@@ -52,7 +52,7 @@ returns-clause-ok g c =
       | in-Some w ↦
           subst (λ r. IfOk r (λ found. (log : List (Option (List ℕ))) → HoldsLog c.args.self.now m log → slice_get log c.args.index ≡ Some (Some found.items))) (sym w.result-is)
           (λ log holds.
-          get-record c.args.self.now m log c.args.index c.in_ok-line.line _ (subst (λ (t : LogState). c.args.index < t.len) c.self.view_is c.if-index-self.false) c.requires.serves holds
+          get-record c.args.self.now m log c.args.index c.in_ok-line.line _ (subst (λ (t : LogState). c.args.index < t.len) c.self.view_is c.if-index-self.false) c.requires.open.serves holds
           (subst (λ (t : LogState). (pages : List Page) → VolumeHolds t.volume m pages → line_in (cell_of pages (c.args.index + 1)) ≡ Some c.in_ok-line.line) c.self.view_is c.in_ok-line.ensures.ok)
           (ap (option_map (λ v. v.items)) (sym w.in-Some.is) ∙ c.record_in.ensures))
       | in-None w ↦ subst (λ r. IfOk r (λ found. (log : List (Option (List ℕ))) → HoldsLog c.args.self.now m log → slice_get log c.args.index ≡ Some (Some found.items))) (sym w.result-is) tt
@@ -63,4 +63,4 @@ returns-clause-serves g c =
     serves-kept c.args.self.now _ (g.L.Lines.state c.args.dev.now).medium _
     (ap (λ (v : VolumeState). v.geo) c.load_line.ensures.object ∙ ap (λ (t : LogState). t.volume.geo) c.self.view_is)
     (ap (λ (v : VolumeState). v.present) c.load_line.ensures.object ∙ ap (λ (t : LogState). t.volume.present) c.self.view_is)
-    (ap (λ (t : LogState). t.len) c.self.view_is) c.load_line.ensures.lines c.load_line.ensures.serves c.requires.serves
+    (ap (λ (t : LogState). t.len) c.self.view_is) c.load_line.ensures.lines c.load_line.ensures.serves c.requires.open.serves

@@ -15,19 +15,19 @@ pub returns-then-len-count-clause-refused : goal.returns-then-len-count-clause-r
 returns-then-len-count-clause-refused g c = λ pages holds.
     let pages_are = ap (λ (v : VolumeState). v.geo.vpages) c.load_line.ensures.object in
     open-wrong pages c.in_ok-line.line (c.in_ok-line.ensures.ok pages holds)
-    (omega (arith, c.if-len-count.true, c.count_in-len.ensures, c.count.ensures.count, length-holds c.args.volume _ pages holds, c.requires.serves.all, pages_are))
+    (omega (arith, c.if-len-count.true, c.count_in-len.ensures, c.count.ensures.count, length-holds c.args.volume _ pages holds, c.requires.ready.serves.all, pages_are))
 
 pub returns-clause-refused : goal.returns-clause-refused
 returns-clause-refused g c = λ pages holds.
     let pages_are = ap (λ (v : VolumeState). v.geo.vpages) c.load_line.ensures.object in
     open-right pages c.in_ok-line.line (c.in_ok-line.ensures.ok pages holds)
-    (omega (arith, c.if-len-count.false, c.count_in-len.ensures, c.count.ensures.count, length-holds c.args.volume _ pages holds, c.requires.serves.all, pages_are))
+    (omega (arith, c.if-len-count.false, c.count_in-len.ensures, c.count.ensures.count, length-holds c.args.volume _ pages holds, c.requires.ready.serves.all, pages_are))
 
 pub returns-clause-ok : goal.returns-clause-ok
 returns-clause-ok g c = λ pages holds.
     let pages_are = ap (λ (v : VolumeState). v.geo.vpages) c.load_line.ensures.object in
     open-length pages c.in_ok-line.line (c.in_ok-line.ensures.ok pages holds)
-    (omega (arith, c.if-len-count.false, c.count_in-len.ensures, c.count.ensures.count, length-holds c.args.volume _ pages holds, c.requires.serves.all, pages_are))
+    (omega (arith, c.if-len-count.false, c.count_in-len.ensures, c.count.ensures.count, length-holds c.args.volume _ pages holds, c.requires.ready.serves.all, pages_are))
     ∙ ap Some (sym c.count_in-len.ensures)
 
 pub returns-clause-serves : goal.returns-clause-serves

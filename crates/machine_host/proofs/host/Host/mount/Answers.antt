@@ -19,34 +19,36 @@ returns-clause-metadata g c =
     let old = (g.D.Lines.state c.args.device.now).medium in
     let new = (g.D.Lines.state c.mount.new.dev).medium in
     let x = c.in_ok-mounted.ensures in
-    subst (λ geo. MetadataStands geo new []) (sym x.ok.0)
-    (metadata_mounted old new c.requires.some c.requires.flushed x.finds x.outside (subst (λ geo. IsInOrder geo new) x.ok.0 x.order))
+    let is = x.mounted in
+    subst (λ geo. MetadataStands geo new []) (sym is.geo)
+    (metadata_mounted old new c.requires.some c.requires.flushed x.finds x.leaves.outside (subst (λ geo. IsInOrder geo new) is.geo is.order))
 
 pub returns-clause-serves : goal.returns-clause-serves
 returns-clause-serves g c =
     let old = (g.D.Lines.state c.args.device.now).medium in
     let new = (g.D.Lines.state c.mount.new.dev).medium in
     let x = c.in_ok-mounted.ensures in
+    let is = x.mounted in
     record {
       layout = (returns-clause-metadata g c).layout;
-      readable = λ none. readable_served c.in_ok-mounted.mounted.geo c.in_ok-mounted.mounted.blocks new (x.ok.1 ∙ sym x.ok.0) (x.serves (durable_flushed _ c.requires.flushed)) (good_lines c.in_ok-mounted.mounted.geo new none);
+      readable = λ none. readable_served c.in_ok-mounted.mounted.geo c.in_ok-mounted.mounted.blocks new (is.blocks_geo ∙ sym is.geo) (is.blocks_serve (durable_flushed _ c.requires.flushed)) (good_lines c.in_ok-mounted.mounted.geo new none);
       power = x.runs.cause.0 ∙ c.requires.on;
       mounted = λ _. subst (λ (f : HeldFiles). AreMounted c.in_ok-mounted.mounted.geo c.in_ok-mounted.mounted.blocks c.in_ok-mounted.mounted.volume f new) (sym c.of.ensures) (record {
-        geometry = x.ok.1 ∙ sym x.ok.0;
-        settled = x.settled.0;
-        serves = x.serves (durable_flushed _ c.requires.flushed);
-        volume_geometry = x.ok.3 ∙ sym x.ok.0;
-        volume_settled = x.settled.1;
-        volume_serves = x.volume;
-        journal_geometry = x.ok.5 ∙ sym x.ok.0;
-        journal_settled = x.settled.2;
-        journal_serves = x.journal;
-        journal_held = x.held;
-        pages_settled = x.settled.3;
+        geometry = is.blocks_geo ∙ sym is.geo;
+        settled = is.settled.0;
+        serves = is.blocks_serve (durable_flushed _ c.requires.flushed);
+        volume_geometry = is.volume_geo ∙ sym is.geo;
+        volume_settled = is.settled.1;
+        volume_serves = is.volume_serves;
+        journal_geometry = is.journal_geo ∙ sym is.geo;
+        journal_settled = is.settled.2;
+        journal_serves = is.journal_serves;
+        journal_held = is.held;
+        pages_settled = is.settled.3;
         mapped = tt;
-        room = room_of (just_mounted c.in_ok-mounted.mounted.files c.in_ok-mounted.mounted.events) new x.room;
-        journal_right = subst (λ geo. AreTables geo.fpages c.in_ok-mounted.mounted.files.journal.tables) (sym x.ok.0)
-            (subst (AreTables (geometry_told old).fpages) (sym x.ok.6) (found_tables old x.finds));
+        room = room_of (just_mounted c.in_ok-mounted.mounted.files c.in_ok-mounted.mounted.events) new is.room;
+        journal_right = subst (λ geo. AreTables geo.fpages c.in_ok-mounted.mounted.files.journal.tables) (sym is.geo)
+            (subst (AreTables (geometry_told old).fpages) (sym is.tables) (found_tables old x.finds));
       });
       stopped = λ stop. cc stop;
     }
@@ -56,9 +58,10 @@ returns-clause-stands g c = λ image shows by_unit.
     let old = (g.D.Lines.state c.args.device.now) in
     let new = (g.D.Lines.state c.mount.new.dev) in
     let x = c.in_ok-mounted.ensures in
-    stands_found _ old new image (g.met.D.Lines.sound c.args.device.now) c.requires.flushed x.finds shows by_unit (x.runs.orders.unit ∙ sym c.requires.unit) x.ok.0 refl x.ok.2 x.ok.4 (ap (λ (f : HeldFiles). f.pages.journal.tables) c.of.ensures ∙ x.ok.6) x.outside (returns-clause-metadata g c)
+    let is = x.mounted in
+    stands_found _ old new image (g.met.D.Lines.sound c.args.device.now) c.requires.flushed x.finds shows by_unit (x.runs.orders.unit ∙ sym c.requires.unit) is.geo refl is.blocks is.present (ap (λ (f : HeldFiles). f.pages.journal.tables) c.of.ensures ∙ is.tables) x.leaves.outside (returns-clause-metadata g c)
     (returns-clause-serves g c) (ap (λ (f : HeldFiles). f.mappings) c.of.ensures)
-    (subst (λ (f : HeldFiles). (files : List File) → FilesStand f.pages.journal.geo new.medium f.pages.journal.tables files → f.events.items ≡ restart_events files) (sym c.of.ensures) x.events)
+    (subst (λ (f : HeldFiles). (files : List File) → FilesStand f.pages.journal.geo new.medium f.pages.journal.tables files → f.events.items ≡ restart_events files) (sym c.of.ensures) is.events)
 
 pub returns-clause-runs : goal.returns-clause-runs
 returns-clause-runs g c = mount_within (g.D.Lines.state c.args.device.now).medium _ _ _ c.in_ok-mounted.ensures.runs

@@ -13,12 +13,13 @@ use Rattle.machine_host.specs.Stands.{HostState, HostServes}
 use Rattle.machine_host.proofs.CallLemmas.{on_refused-then}
 use Rattle.machine_host.proofs.LineLemmas.{clear_called, fate_clear, scrub_part}
 use Rattle.machine_host.proofs.VolumeCallLemmas.{of_pages, volume_pages, volume_sizes, work_answered}
+use Rattle.machine_host.proofs.InsideLemmas.{left_of}
 use Rattle.machine_host.proofs.host.Performer.clear_volume.Goals as goal
 
 pub returns : goal.returns
 returns g c =
     let now = c.args.self.now in
-    let host : HostState = record { geometry = c.self.inside.geometry; unit = c.self.inside.unit; mode = c.self.inside.mode; blocks = c.self.inside.blocks; volume = c.self.inside.volume; files = c.self.inside.files } in
+    let host = left_of c.self.view_is in
     let old = g.D.Lines.state c.args.device.now in
     let new = g.D.Lines.state c.clear_volume-call.new.dev in
     let said = c.clear_volume-call.ensures in

@@ -3,15 +3,16 @@ use Rattle.script_text.specs.Action.Action.{Cut}
 use Rattle.reply_text.specs.Answer.Answer.{Done}
 use Rattle.machine_model.specs.declared.mode.Mode.TheVariants.{Off}
 use Rattle.machine_host.specs.Responding.{Answered}
-use Rattle.machine_host.specs.Stands.{HostState, HostServes}
+use Rattle.machine_host.specs.Stands.{HostServes}
 use Rattle.machine_host.proofs.ElsewhereLemmas.{serves_ordered}
 use Rattle.machine_host.proofs.StepLemmas.{comes_of_cut, comes_placed}
 use Rattle.machine_model.proofs.RefusalLemmas.{power_allows}
+use Rattle.machine_host.proofs.InsideLemmas.{left_of}
 use Rattle.machine_host.proofs.host.Performer.cut.Goals as goal
 
 pub returns : goal.returns
 returns g c =
-    let host : HostState = record { geometry = c.self.inside.geometry; unit = c.self.inside.unit; mode = c.self.inside.mode; blocks = c.self.inside.blocks; volume = c.self.inside.volume; files = c.self.inside.files } in
+    let host = left_of c.self.view_is in
     let old = (g.D.Lines.state c.args.device.now) in
     let new = (g.D.Lines.state c.power_off.new.self) in
     let said = c.power_off.ensures in

@@ -2,15 +2,15 @@ use Rattle.std.proofs.Common.{◌≡◌, Some, None, refl, sym, ap, ◌∙◌, a
 use Rattle.inode_table.specs.Slots.{inode_of}
 use Rattle.file_journal.specs.Object.{JournalState}
 use Rattle.script_text.specs.Action.Action.{FDiscard}
-use Rattle.machine_host.specs.Stands.{HostState}
 use Rattle.machine_host.proofs.FileActionLemmas.{discard_answered}
 use Rattle.machine_host.proofs.FilePageLemmas.{held_now, missing_answered}
+use Rattle.machine_host.proofs.InsideLemmas.{left_of}
 use Rattle.machine_host.proofs.host.Performer.fdiscard.Goals as goal
 
 pub returns-in-Some : goal.returns-in-Some
 returns-in-Some g c =
     let said = c.discard-call.ensures in
-    let host : HostState = record { geometry = c.self.inside.geometry; unit = c.self.inside.unit; mode = c.self.inside.mode; blocks = c.self.inside.blocks; volume = c.self.inside.volume; files = c.self.inside.files } in
+    let host = left_of c.self.view_is in
     let name = c.args.name.now in
     let here : inode_of name host.files.pages.journal.tables.files ≡ Some c.in-Some.inode = ap (λ (j : JournalState). inode_of name j.tables.files) (sym c.journal.ensures) ∙ sym c.in-Some.ensures.value in
     discard_answered g.D.Lines.state c.args.self.now host _ _ c.discard-call.result name c.in-Some.inode _ _ c.self.view_is c.action_answer.ensures.state c.requires.on c.requires.serves here
@@ -34,6 +34,6 @@ returns-in-Some g c =
 pub returns-in-None : goal.returns-in-None
 returns-in-None g c =
     let name = c.args.name.now in
-    let host : HostState = record { geometry = c.self.inside.geometry; unit = c.self.inside.unit; mode = c.self.inside.mode; blocks = c.self.inside.blocks; volume = c.self.inside.volume; files = c.self.inside.files } in
+    let host = left_of c.self.view_is in
     let none : None ≡ inode_of name host.files.pages.journal.tables.files = c.in-None.ensures.value ∙ ap (λ (j : JournalState). inode_of name j.tables.files) c.journal.ensures in
     missing_answered c.args.self.now host _ name (FDiscard name c.args.pages.start c.args.pages.len) c.self.view_is c.requires.on c.requires.serves none refl (λ h. refl) (omega arith)

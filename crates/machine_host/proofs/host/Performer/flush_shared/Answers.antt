@@ -6,6 +6,7 @@ use Rattle.machine_host.specs.Stands.{HostState}
 use Rattle.machine_host.proofs.FilePageLemmas.{right_now, room_now}
 use Rattle.machine_host.proofs.FlushLemmas.{flush_told, mapped_found}
 use Rattle.machine_host.proofs.HandleCallLemmas.{told_of}
+use Rattle.machine_host.proofs.InsideLemmas.{left_of}
 use Rattle.machine_host.proofs.host.Performer.flush_shared.Goals as goal
 use Rattle.machine_host.proofs.LostLineLemmas.{holds_lost, none_flushed}
 
@@ -20,7 +21,7 @@ unreachable-requires g c =
 pub tell_flushed-requires-clause-room : goal.tell_flushed-requires-clause-room
 tell_flushed-requires-clause-room g c =
     let now = c.args.self.now in
-    let host : HostState = record { geometry = c.self.inside.geometry; unit = c.self.inside.unit; mode = c.self.inside.mode; blocks = c.self.inside.blocks; volume = c.self.inside.volume; files = c.self.inside.files } in
+    let host = left_of c.self.view_is in
     let old = g.D.Lines.state c.args.device.now in
     let said = c.flush_file-call.ensures.said in
     let here : inode_of c.args.info.now.name host.files.pages.journal.tables.files ≡ Some c.in-Some.inode = ap (λ (j : JournalState). inode_of c.args.info.now.name j.tables.files) (sym c.journal.ensures) ∙ sym c.in-Some.ensures.value in
@@ -31,7 +32,7 @@ tell_flushed-requires-clause-room g c =
 pub returns : goal.returns
 returns g c = λ action row wide.
     let now = c.args.self.now in
-    let host : HostState = record { geometry = c.self.inside.geometry; unit = c.self.inside.unit; mode = c.self.inside.mode; blocks = c.self.inside.blocks; volume = c.self.inside.volume; files = c.self.inside.files } in
+    let host = left_of c.self.view_is in
     let told = told_of now.files.mappings.mappings c.args.handle c.args.info.now c.requires.told in
     let here : inode_of c.args.info.now.name host.files.pages.journal.tables.files ≡ Some c.in-Some.inode = ap (λ (j : JournalState). inode_of c.args.info.now.name j.tables.files) (sym c.journal.ensures) ∙ sym c.in-Some.ensures.value in
     flush_told g.D.Lines.state now host c.flushed.new.self c.flush_file-call.new.pages c.tell_flushed.new.self c.flush_file-call.result c.args.handle c.in-Some.inode c.args.look c.args.spans.now

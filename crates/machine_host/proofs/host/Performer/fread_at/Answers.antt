@@ -4,12 +4,13 @@ use Rattle.file_journal.specs.Object.{JournalState}
 use Rattle.machine_model.specs.Meaning.{most_refusal}
 use Rattle.machine_host.specs.Stands.{HostState}
 use Rattle.machine_host.proofs.FilePageLemmas.{misread_answered}
+use Rattle.machine_host.proofs.InsideLemmas.{left_of}
 use Rattle.machine_host.proofs.host.Performer.fread_at.Goals as goal
 
 pub returns-in-Some : goal.returns-in-Some
 returns-in-Some g c =
     let name = c.args.name.now in
-    let host : HostState = record { geometry = c.self.inside.geometry; unit = c.self.inside.unit; mode = c.self.inside.mode; blocks = c.self.inside.blocks; volume = c.self.inside.volume; files = c.self.inside.files } in
+    let host = left_of c.self.view_is in
     let here : inode_of name host.files.pages.journal.tables.files ≡ Some c.args.inode = ap (λ (k : HostState). inode_of name k.files.pages.journal.tables.files) c.self.view_is ∙ c.requires.named in (
       misread_answered c.args.self.now host _ name c.args.inode c.args.offset c.args.len c.in-Some.why c.self.view_is c.requires.on c.requires.serves here
           (c.in-Some.ensures

@@ -16,13 +16,14 @@ use Rattle.machine_host.specs.Stands.{HostState}
 use Rattle.machine_host.proofs.CallLemmas.{printable_told, short_told}
 use Rattle.machine_host.proofs.FilePageLemmas.{pages_part, read_answered}
 use Rattle.machine_host.proofs.WorkLemmas.{head_is, head_length, head_short, head_within}
+use Rattle.machine_host.proofs.InsideLemmas.{left_of}
 use Rattle.machine_host.proofs.host.Performer.fread_within.Goals as goal
 
 pub returns-in-Ok : goal.returns-in-Ok
 returns-in-Ok g c =
     let said = c.in-Ok.ensures in
     let now = c.args.self.now in
-    let host : HostState = record { geometry = c.self.inside.geometry; unit = c.self.inside.unit; mode = c.self.inside.mode; blocks = c.self.inside.blocks; volume = c.self.inside.volume; files = c.self.inside.files } in
+    let host = left_of c.self.view_is in
     let name = c.args.name.now in
     let asked : length (take c.args.len c.args.work.now) ≡ c.args.len = head_length c.args.len c.args.work.now c.requires.wide c.requires.few in
     let here : inode_of name host.files.pages.journal.tables.files ≡ Some c.args.inode = ap (λ (k : HostState). inode_of name k.files.pages.journal.tables.files) c.self.view_is ∙ c.requires.named in
@@ -45,7 +46,7 @@ pub returns-in-Err : goal.returns-in-Err
 returns-in-Err g c =
     let said = c.in-Err.ensures in
     let now = c.args.self.now in
-    let host : HostState = record { geometry = c.self.inside.geometry; unit = c.self.inside.unit; mode = c.self.inside.mode; blocks = c.self.inside.blocks; volume = c.self.inside.volume; files = c.self.inside.files } in
+    let host = left_of c.self.view_is in
     let name = c.args.name.now in
     let asked : length (take c.args.len c.args.work.now) ≡ c.args.len = head_length c.args.len c.args.work.now c.requires.wide c.requires.few in
     let here : inode_of name host.files.pages.journal.tables.files ≡ Some c.args.inode = ap (λ (k : HostState). inode_of name k.files.pages.journal.tables.files) c.self.view_is ∙ c.requires.named in

@@ -3,16 +3,16 @@ use Rattle.inode_table.specs.Slots.{inode_of}
 use Rattle.file_journal.specs.Object.{JournalState}
 use Rattle.file_actions.specs.Refusals.{all_bytes}
 use Rattle.script_text.specs.Action.Action.{FSync}
-use Rattle.machine_host.specs.Stands.{HostState}
 use Rattle.machine_host.proofs.FilePageLemmas.{missing_answered, right_now, room_now}
 use Rattle.machine_host.proofs.FileSyncLemmas.{fsync_told, none_synced}
 use Rattle.machine_host.proofs.LostLineLemmas.{holds_lost}
+use Rattle.machine_host.proofs.InsideLemmas.{left_of}
 use Rattle.machine_host.proofs.host.Performer.fsync.Goals as goal
 
 pub tell_synced-requires-clause-room : goal.tell_synced-requires-clause-room
 tell_synced-requires-clause-room g c =
     let now = c.args.self.now in
-    let host : HostState = record { geometry = c.self.inside.geometry; unit = c.self.inside.unit; mode = c.self.inside.mode; blocks = c.self.inside.blocks; volume = c.self.inside.volume; files = c.self.inside.files } in
+    let host = left_of c.self.view_is in
     let old = g.D.Lines.state c.args.device.now in
     let said = c.sync-call.ensures in
     let name = c.args.name.now in
@@ -23,7 +23,7 @@ tell_synced-requires-clause-room g c =
 
 pub returns-in-Some : goal.returns-in-Some
 returns-in-Some g c =
-    let host : HostState = record { geometry = c.self.inside.geometry; unit = c.self.inside.unit; mode = c.self.inside.mode; blocks = c.self.inside.blocks; volume = c.self.inside.volume; files = c.self.inside.files } in
+    let host = left_of c.self.view_is in
     let said = c.sync-call.ensures in
     let name = c.args.name.now in
     let here : inode_of name host.files.pages.journal.tables.files ≡ Some c.in-Some.inode = ap (λ (j : JournalState). inode_of name j.tables.files) (sym c.journal.ensures) ∙ sym c.in-Some.ensures.value in
@@ -34,6 +34,6 @@ returns-in-Some g c =
 pub returns-in-None : goal.returns-in-None
 returns-in-None g c =
     let name = c.args.name.now in
-    let host : HostState = record { geometry = c.self.inside.geometry; unit = c.self.inside.unit; mode = c.self.inside.mode; blocks = c.self.inside.blocks; volume = c.self.inside.volume; files = c.self.inside.files } in
+    let host = left_of c.self.view_is in
     let none : None ≡ inode_of name host.files.pages.journal.tables.files = c.in-None.ensures.value ∙ ap (λ (j : JournalState). inode_of name j.tables.files) c.journal.ensures in
     missing_answered c.args.self.now host _ name (FSync name) c.self.view_is c.requires.on c.requires.serves none refl (λ h. refl) (omega arith)

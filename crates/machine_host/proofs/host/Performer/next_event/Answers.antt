@@ -9,12 +9,13 @@ use Rattle.machine_host.specs.Responding.{Answered}
 use Rattle.machine_host.specs.Stands.{HostServes, HostState}
 use Rattle.machine_host.proofs.NextEventLemmas.{first_told, next_answered, spare_kept}
 use Rattle.machine_host.proofs.RoomLemmas.{telling}
+use Rattle.machine_host.proofs.InsideLemmas.{left_of}
 use Rattle.machine_host.proofs.host.Performer.next_event.Goals as goal
 use Rattle.machine_host.proofs.host.Performer.next_event.Goals.{in-Some, in-None}
 
 pub returns : goal.returns
 returns g c =
-    let host : HostState = record { geometry = c.self.inside.geometry; unit = c.self.inside.unit; mode = c.self.inside.mode; blocks = c.self.inside.blocks; volume = c.self.inside.volume; files = c.self.inside.files } in
+    let host = left_of c.self.view_is in
     let d = g.D.Lines.state c.args._device.now in
     let e : Stock Event = c.next.new.self in
     let said = c.next.ensures in

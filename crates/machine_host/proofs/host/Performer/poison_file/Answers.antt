@@ -9,22 +9,23 @@ use Rattle.machine_host.specs.Stands.{HostState, HostServes}
 use Rattle.machine_host.proofs.CallLemmas.{on_refused-then}
 use Rattle.machine_host.proofs.FileNewsLemmas.{poison_told}
 use Rattle.machine_host.proofs.FilePageLemmas.{missing_answered}
+use Rattle.machine_host.proofs.InsideLemmas.{left_of}
 use Rattle.machine_host.proofs.host.Performer.poison_file.Goals as goal
 use Rattle.machine_host.proofs.host.Performer.poison_file.Goals.{then-is_ok, else-is_ok}
 
 pub returns-in_default : goal.returns-in_default
 returns-in_default g c =
     let name = c.args.name.now in
-    let host : HostState = record { geometry = c.self.inside.geometry; unit = c.self.inside.unit; mode = c.self.inside.mode; blocks = c.self.inside.blocks; volume = c.self.inside.volume; files = c.self.inside.files } in
+    let host = left_of c.self.view_is in
     let none : None ≡ inode_of name host.files.pages.journal.tables.files = c.in_default.ensures.value ∙ ap (λ (j : JournalState). inode_of name j.tables.files) c.journal.ensures in
     missing_answered c.args.self.now host _ name (PoisonFile name c.args.offset) c.self.view_is c.requires.on c.requires.serves none refl (λ h. refl) (omega arith)
 
 pub returns : goal.returns
 returns g c =
-    let host : HostState = record { geometry = c.self.inside.geometry; unit = c.self.inside.unit; mode = c.self.inside.mode; blocks = c.self.inside.blocks; volume = c.self.inside.volume; files = c.self.inside.files } in
+    let host = left_of c.self.view_is in
     let old = g.D.Lines.state c.args.device.now in
     let new = g.D.Lines.state c.poison_file-call.new.dev in
-    let said = c.poison_file-call.ensures in
+    let said = c.poison_file-call.ensures.marks in
     let r = c.poison_file-call.result in
     let name = c.args.name.now in
     let reserved = c.in_ok-reserve_event.ensures in

@@ -4,17 +4,18 @@ use Rattle.scrub.specs.Refusals.{place_says}
 use Rattle.reply_text.specs.Answer.{answer_of}
 use Rattle.script_text.specs.Action.Action.{PoisonVolume}
 use Rattle.machine_host.specs.Responding.{Answered}
-use Rattle.machine_host.specs.Stands.{HostState, HostServes}
+use Rattle.machine_host.specs.Stands.{HostServes}
 use Rattle.machine_host.proofs.CallLemmas.{on_refused-then}
 use Rattle.machine_host.proofs.LineLemmas.{fate_poison, if_err_all, place_refuses, volume_line_answered}
+use Rattle.machine_host.proofs.InsideLemmas.{left_of}
 use Rattle.machine_host.proofs.host.Performer.poison_volume.Goals as goal
 
 pub returns : goal.returns
 returns g c =
-    let host : HostState = record { geometry = c.self.inside.geometry; unit = c.self.inside.unit; mode = c.self.inside.mode; blocks = c.self.inside.blocks; volume = c.self.inside.volume; files = c.self.inside.files } in
+    let host = left_of c.self.view_is in
     let old = g.D.Lines.state c.args.device.now in
     let new = g.D.Lines.state c.poison_volume-call.new.dev in
-    let said = c.poison_volume-call.ensures in
+    let said = c.poison_volume-call.ensures.marks in
     let serves = subst (λ k. HostServes k old) (sym c.self.view_is) c.requires.serves in
     let on = ap (λ k. k.mode) c.self.view_is ∙ c.requires.on in
     subst (λ k. Answered (PoisonVolume c.args.offset) (answer_of c.marked.result) k k old new) c.self.view_is

@@ -10,19 +10,20 @@ use Rattle.machine_host.specs.Stands.{HostState}
 use Rattle.script_text.specs.Action.Action.{Rename}
 use Rattle.machine_host.proofs.FilesCallLemmas.{change_answered, files_called, free_seen, sees_files}
 use Rattle.machine_host.proofs.FilesFateLemmas.{fate_rename, rename_becomes, rename_spares}
+use Rattle.machine_host.proofs.InsideLemmas.{left_of, with_journal}
 use Rattle.machine_host.proofs.host.Performer.rename_unmapped.Goals as goal
 use Rattle.machine_host.proofs.WeakFileLemmas.{rename-weak}
 
 pub returns : goal.returns
 returns g c =
-    let said = c.rename-call.ensures in
+    let said = c.rename-call.ensures.changes in
     let now = c.args.self.now in
-    let host : HostState = record { geometry = c.self.inside.geometry; unit = c.self.inside.unit; mode = c.self.inside.mode; blocks = c.self.inside.blocks; volume = c.self.inside.volume; files = record { pages = record { journal = c.journal_mut.result.now; settled = c.self.inside.files.pages.settled }; mappings = c.self.inside.files.mappings; events = c.self.inside.files.events } } in
-    let inside : host ≡ now = ap (λ (j : JournalState). let k : HostState = record { geometry = c.self.inside.geometry; unit = c.self.inside.unit; mode = c.self.inside.mode; blocks = c.self.inside.blocks; volume = c.self.inside.volume; files = record { pages = record { journal = j; settled = c.self.inside.files.pages.settled }; mappings = c.self.inside.files.mappings; events = c.self.inside.files.events } } in k) c.journal_mut.ensures.value ∙ c.self.view_is in
+    let host = with_journal (left_of c.self.view_is) c.journal_mut.result.now in
+    let inside : host ≡ now = ap (λ (j : JournalState). with_journal (left_of c.self.view_is) j) c.journal_mut.ensures.value ∙ c.self.view_is in
     let free = ap (λ (k : HostState). is_mapped c.args.name.now k.files.mappings.mappings) inside ∙ c.requires.free in
     let old = g.D.Lines.state c.args.device.now in
     change_answered now host _ _ c.rename-call.result _ _ 5 (rename_file file_name c.args.name.now (with_name c.args.to.now)) old _ inside c.journal_answer.ensures.state c.requires.on c.requires.serves
-    (files_called g.D.Lines.state host _ c.rename-call.result _ _ 5 _ _ said.refused said.untouched said.ok said.images said.outside said.serves said.object said.units said.runs)
+    (files_called g.D.Lines.state host _ _ _ c.rename-call.result _ _ 5 said)
     (λ are none. rename_becomes host.files.pages.journal old.medium are c.args.name.now c.args.to.now c.bytes-is_name.ensures.name none)
     (λ are none. rename_spares host.files.pages.journal old.medium are c.args.name.now c.args.to.now c.self.inside.files.mappings.mappings free none)
     (rename-weak c.args.name.now c.args.to.now)

@@ -11,20 +11,21 @@ use Rattle.script_text.specs.Action.Action.{Resize}
 use Rattle.machine_host.proofs.FilesCallLemmas.{change_answered, files_called, files_of_device, free_seen, sees_files}
 use Rattle.machine_host.proofs.FilesFateLemmas.{fate_resize, resize_becomes}
 use Rattle.machine_host.proofs.MappedLemmas.{spares-resize}
+use Rattle.machine_host.proofs.InsideLemmas.{left_of, with_journal}
 use Rattle.machine_host.proofs.host.Performer.resize_unmapped.Goals as goal
 use Rattle.machine_host.proofs.WeakFileLemmas.{change-weak}
 use Rattle.machine_host.proofs.WeakLineLemmas.{resize-weak}
 
 pub returns : goal.returns
 returns g c =
-    let said = c.resize-call.ensures in
+    let said = c.resize-call.ensures.changes in
     let now = c.args.self.now in
-    let host : HostState = record { geometry = c.self.inside.geometry; unit = c.self.inside.unit; mode = c.self.inside.mode; blocks = c.self.inside.blocks; volume = c.self.inside.volume; files = record { pages = record { journal = c.journal_mut.result.now; settled = c.self.inside.files.pages.settled }; mappings = c.self.inside.files.mappings; events = c.self.inside.files.events } } in
-    let inside : host ≡ now = ap (λ (j : JournalState). let k : HostState = record { geometry = c.self.inside.geometry; unit = c.self.inside.unit; mode = c.self.inside.mode; blocks = c.self.inside.blocks; volume = c.self.inside.volume; files = record { pages = record { journal = j; settled = c.self.inside.files.pages.settled }; mappings = c.self.inside.files.mappings; events = c.self.inside.files.events } } in k) c.journal_mut.ensures.value ∙ c.self.view_is in
+    let host = with_journal (left_of c.self.view_is) c.journal_mut.result.now in
+    let inside : host ≡ now = ap (λ (j : JournalState). with_journal (left_of c.self.view_is) j) c.journal_mut.ensures.value ∙ c.self.view_is in
     let free = ap (λ (k : HostState). is_mapped c.args.name.now k.files.mappings.mappings) inside ∙ c.requires.free in
     let old = g.D.Lines.state c.args.device.now in
     change_answered now host _ _ c.resize-call.result _ _ 261 (change_file file_name c.args.name.now (with_pages c.args.pages)) old _ inside c.journal_answer.ensures.state c.requires.on c.requires.serves
-    (files_called g.D.Lines.state host _ c.resize-call.result _ _ 261 _ _ said.refused said.untouched said.ok said.images said.outside said.serves said.object said.units said.runs)
+    (files_called g.D.Lines.state host _ _ _ c.resize-call.result _ _ 261 said)
     (λ are none. resize_becomes host.files.pages.journal old.medium are c.args.name.now c.args.pages none)
     (λ are none. spares-resize (files_of_device host.files.pages.journal old.medium) c.args.name.now c.args.pages c.self.inside.files.mappings.mappings free)
     (change-weak c.args.name.now (with_pages c.args.pages) (resize-weak c.args.pages))

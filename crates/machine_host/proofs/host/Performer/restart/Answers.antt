@@ -1,11 +1,9 @@
-use Rattle.std.proofs.Common.{inl, inr, refl, ap, ◌∙◌}
-use Rattle.word_tables.specs.declared.geometry.Geometry.{Geometry}
+use Rattle.std.proofs.Common.{inl, inr, refl}
 use Rattle.std.proofs.lemmas.Result.{err_from_is_err_and}
 use Rattle.reply_text.specs.Answer.{answer_of}
 use Rattle.script_text.specs.Action.Action.{Restart}
 use Rattle.machine_host.specs.Responding.{Answered}
 use Rattle.machine_host.proofs.MountLemmas.{durable_flushed, flushed-restarted, line_zero, mount_within}
-use Rattle.machine_host.proofs.MountEffectLemmas.{Gives}
 use Rattle.machine_host.proofs.RestartAnswerLemmas.{mount_done, restart_answered, restart_unmounted}
 use Rattle.machine_host.proofs.RestartLemmas.{serves_back, serves_waited}
 use Rattle.machine_host.proofs.host.Performer.restart.Goals as goal
@@ -24,7 +22,7 @@ mount-requires-clause-some g c =
 
 pub mounted-requires-clause-blocks : goal.mounted-requires-clause-blocks
 mounted-requires-clause-blocks g c =
-    c.in-Ok.ensures.serves (durable_flushed _ (flushed-restarted _ c.args.choice _ _ (g.met.D.Lines.sound c.args.device.now) c.in_ok-restart.ensures.1.lines))
+    c.in-Ok.ensures.mounted.blocks_serve (durable_flushed _ (flushed-restarted _ c.args.choice _ _ (g.met.D.Lines.sound c.args.device.now) c.in_ok-restart.ensures.1.lines))
 
 pub returns-in-Ok : goal.returns-in-Ok
 returns-in-Ok g c =
@@ -36,29 +34,11 @@ returns-in-Ok g c =
     let left = c.in_ok-restart.ensures in
     let sound_old = g.met.D.Lines.sound c.args.device.now in
     let sound = g.met.D.Lines.sound c.restart.new.self in
-    let given : Gives mid new c.in-Ok.mounted.blocks c.in-Ok.mounted.volume c.in-Ok.mounted.files c.in-Ok.mounted.events = record {
-      geometry = x.ok.1;
-      settled = x.settled.0;
-      serves = x.serves;
-      blocks = x.ok.2;
-      volume_geometry = x.ok.3;
-      present = x.ok.4;
-      volume_settled = x.settled.1;
-      volume_serves = x.volume;
-      journal_geometry = x.ok.5;
-      tables = x.ok.6;
-      journal_settled = x.settled.2;
-      journal_serves = x.journal;
-      journal_held = x.held ∙ ap (λ (g : Geometry). g.fpages) x.ok.0;
-      pages_settled = x.settled.3;
-      events = x.events;
-      room = x.room;
-    } in
     subst (λ k. Answered (Restart c.args.choice) (answer_of c.mounted.result) now k old new) (sym c.mounted.ensures.state)
     (restart_answered now c.args.choice old mid new left.0 c.requires.serves c.requires.off left.1 sound_old sound _ (answer_of c.mounted.result)
     (mount_done _ mid new (serves_back now c.args.choice old mid left.0 c.requires.serves left.1 sound_old sound) refl sound
-    (record { outside = x.outside; refused = x.refused; reads = x.reads; presence = x.presence; files = x.files })
-    c.in-Ok.mounted.blocks c.in-Ok.mounted.volume c.in-Ok.mounted.files c.in-Ok.mounted.events (answer_of c.mounted.result) (mount_within mid.medium _ mid.panel new.panel x.runs) x.finds given c.mounted.ensures.answer))
+    x.leaves
+    c.in-Ok.mounted (answer_of c.mounted.result) (mount_within mid.medium _ mid.panel new.panel x.runs) x.finds x.mounted c.mounted.ensures.answer))
 
 pub returns-in-Err : goal.returns-in-Err
 returns-in-Err g c =
@@ -68,5 +48,5 @@ returns-in-Err g c =
     let x = c.in-Err.ensures in
     let left = c.in_ok-restart.ensures in
     restart_unmounted c.args.self.now c.unmounted.new.self c.args.choice old mid new left.0 c.requires.serves c.requires.off left.1 (g.met.D.Lines.sound c.args.device.now) (g.met.D.Lines.sound c.restart.new.self)
-    (record { outside = x.outside; refused = x.refused; reads = x.reads; presence = x.presence; files = x.files }) c.in-Err.fault x.finds (mount_within mid.medium _ mid.panel new.panel x.runs) c.unmounted.ensures.state
+    x.leaves c.in-Err.fault x.finds (mount_within mid.medium _ mid.panel new.panel x.runs) c.unmounted.ensures.state
     c.unmounted.result c.unmounted.ensures.answer

@@ -13,18 +13,19 @@ use Rattle.machine_host.proofs.FileNewsLemmas.{weaken_starved, weaken_told}
 use Rattle.machine_host.proofs.FilePageLemmas.{missing_answered}
 use Rattle.machine_host.proofs.StepLemmas.{leaves_all}
 use Rattle.machine_host.proofs.WeakenLemmas.{weaken_responds}
+use Rattle.machine_host.proofs.InsideLemmas.{left_of}
 use Rattle.machine_host.proofs.host.Performer.weaken_file.Goals as goal
 
 pub returns-in_default : goal.returns-in_default
 returns-in_default g c =
     let name = c.args.name.now in
-    let host : HostState = record { geometry = c.self.inside.geometry; unit = c.self.inside.unit; mode = c.self.inside.mode; blocks = c.self.inside.blocks; volume = c.self.inside.volume; files = c.self.inside.files } in
+    let host = left_of c.self.view_is in
     let none : None ≡ inode_of name host.files.pages.journal.tables.files = c.in_default.ensures.value ∙ ap (λ (j : JournalState). inode_of name j.tables.files) c.journal.ensures in
     missing_answered c.args.self.now host _ name (WeakenFile name c.args.offset) c.self.view_is c.requires.on c.requires.serves none refl (λ h. refl) (omega arith)
 
 pub returns-in_err-reserve_event : goal.returns-in_err-reserve_event
 returns-in_err-reserve_event g c =
-    let host : HostState = record { geometry = c.self.inside.geometry; unit = c.self.inside.unit; mode = c.self.inside.mode; blocks = c.self.inside.blocks; volume = c.self.inside.volume; files = c.self.inside.files } in
+    let host = left_of c.self.view_is in
     let old = g.D.Lines.state c.args.device.now in
     let p = err_from_is_err_and c.from_residual.result c.from_residual.ensures.1 in
     let same : record host { files = c.reserve_event.new.self } ≡ c.args.self.now = ap (λ (f : HeldFiles). record host { files = f }) c.in_err-reserve_event.ensures.err ∙ c.self.view_is in
@@ -33,10 +34,10 @@ returns-in_err-reserve_event g c =
 
 pub returns : goal.returns
 returns g c =
-    let host : HostState = record { geometry = c.self.inside.geometry; unit = c.self.inside.unit; mode = c.self.inside.mode; blocks = c.self.inside.blocks; volume = c.self.inside.volume; files = c.self.inside.files } in
+    let host = left_of c.self.view_is in
     let old = g.D.Lines.state c.args.device.now in
     let new = g.D.Lines.state c.weaken_file-call.new.dev in
-    let said = c.weaken_file-call.ensures in
+    let said = c.weaken_file-call.ensures.marks in
     let r = c.weaken_file-call.result in
     let name = c.args.name.now in
     let f = c.reserve_event.new.self in
@@ -48,4 +49,4 @@ returns g c =
     (weaken_responds (WeakenFile name c.args.offset) r c.weakened.result host (record host { files = f }) old new c.weakened.ensures
     (λ answer told is. weaken_told host old new on serves name c.in-Some.inode c.args.offset here f reserved.others reserved.items reserved.ok reserved.spare r answer told said.panel said.refused
     (on_refused-then weaken_says r (λ same. ap g.D.Lines.state same) said.untouched) said.ok said.outside said.serves is)
-    (λ starved. weaken_starved host old new on serves name c.in-Some.inode c.args.offset here f reserved.others reserved.items reserved.ok reserved.spare (said.memory starved) said.panel))
+    (λ starved. weaken_starved host old new on serves name c.in-Some.inode c.args.offset here f reserved.others reserved.items reserved.ok reserved.spare (c.weaken_file-call.ensures.memory starved) said.panel))
