@@ -1,14 +1,15 @@
 -- The tables after pages of an inode were switched.
-use Rattle.std.proofs.Common.{◌≡◌, inl, inr, ℕ, zero, suc, ◌+◌, ◌*◌, ◌/◌, ◌%◌, ◌<◌, ◌≤◌, ◌==◌, ◌&&◌, Bool, true, false, List, [], Option, Some, None, IfSome, is_some, is_none, length, get_or, map, set, take, slice_get, if◌then◌else◌, refl, sym, ap, ◌∙◌, subst, arith}
+use Rattle.std.proofs.Common.{◌≡◌, inl, inr, ℕ, zero, suc, ◌+◌, ◌*◌, ◌/◌, ◌%◌, ◌<◌, ◌≤◌, ◌==◌, ◌&&◌, Bool, true, false, List, [], Option, Some, None, is_some, is_none, length, get_or, map, set, take, slice_get, if◌then◌else◌, refl, sym, ap, ◌∙◌, subst, arith}
 use Rattle.std.proofs.lemmas.List.{set-get_or, take_all, take_more}
 use Rattle.std.proofs.lemmas.List.Sums.{count_by_more_yes, count_by_more_no}
 use Rattle.std.proofs.lemmas.Option.{same_Some, slice_get-get_or}
 use Rattle.nvm_base.specs.declared.files.FileEntry.{FileEntry}
 use Rattle.nvm_model.proofs.NumberedLemmas.{length-map_from}
 use Rattle.inode_table.specs.Slots as names
-use Rattle.inode_table.specs.Slots.{MayTake, pages_at, pages_of}
+use Rattle.inode_table.specs.Slots.{pages_at, pages_of}
 use Rattle.page_table.specs.Pages.{IsOn, IsWithinCounts, used_by, used_pages}
 use Rattle.free_pool.proofs.BesideLemmas.{used_after}
+use Rattle.file_journal.specs.Calls.{MaySet}
 use Rattle.file_journal.specs.Changes.{changed_tables, filled_holes, switched_page, switched_pages, unit_for}
 use Rattle.file_journal.specs.Switches.{AreHeld, AreSwitches, ArePagesOf, IsSwitch}
 use Rattle.file_journal.specs.Tables.{AreTables, Tables, unit_at}
@@ -135,11 +136,11 @@ module _ (size inode : ℕ) (below : inode < 64) (t : Tables) (are : AreTables s
         }
 
 -- the slot that an inode is may be set again
-pub slot_holds : (files : List (Option FileEntry)) (inode : ℕ) (slot : Option FileEntry) → names.IsTable files → inode < 64 → slot ≡ get_or files inode None → IfSome slot (λ file. MayTake files inode file.name) × IfSome slot (λ file. file.pages ≤ 256)
-slot_holds files inode None are below is = (tt, tt)
+pub slot_holds : (files : List (Option FileEntry)) (inode : ℕ) (slot : Option FileEntry) → names.IsTable files → inode < 64 → slot ≡ get_or files inode None → MaySet files inode slot
+slot_holds files inode None are below is = record { name = tt; pages = tt }
 slot_holds files inode (Some file) are below is =
     let here = slice_get-get_or files inode None (omega (arith, are.all)) ∙ ap (λ (f : Option FileEntry). Some f) (sym is) in
-    (λ other f at same. are.apart other inode f file at here same, are.pages inode file here)
+    record { name = λ other f at same. are.apart other inode f file at here same; pages = are.pages inode file here }
 
 pub set_again : (inode : ℕ) (slot : Option FileEntry) (switches : List (ℕ × Option ℕ)) (t : Tables) → slot ≡ get_or t.files inode None → changed_tables inode slot switches t ≡ record t { pages = switched_pages inode switches t.pages }
 set_again inode slot switches t is = ap (λ (fs : List (Option FileEntry)). let after : Tables = record { files = fs; pages = switched_pages inode switches t.pages } in after) (ap (set t.files inode) is ∙ set-get_or t.files inode None)

@@ -1,4 +1,5 @@
 pub mod AreaLemmas
+pub mod CallLemmas
 pub mod ChangeLemmas
 pub mod CheckLemmas
 pub mod FillLemmas
@@ -12,7 +13,6 @@ pub mod NamedFileLemmas
 pub mod EntryLemmas
 pub mod MountLemmas
 pub mod ReplaceLemmas
-pub mod RunLemmas
 pub mod StandingLemmas
 pub mod EachFilesLemmas
 pub mod ServesLemmas

@@ -8,8 +8,9 @@ use Rattle.free_pool.specs.Units.{IsTaken}
 use Rattle.free_pool.proofs.BesideLemmas.{given_known, given_taken, still_taken, switched_known, switched_taken}
 use Rattle.page_table.specs.Pages.{IsOn, IsTable, MayTake, TableState, used_by}
 use Rattle.nvm_model.proofs.NumberedLemmas.{length-map_from}
+use Rattle.file_journal.specs.Calls.{CanSwitch}
 use Rattle.file_journal.specs.Changes.{named_units, switched_page, switched_pages, unit_for}
-use Rattle.file_journal.specs.Switches.{AreHeld, AreSwitches, IsSwitch}
+use Rattle.file_journal.specs.Switches.{IsSwitch}
 use Rattle.file_journal.specs.Tables.{AreTaken, IsVacant, known_units}
 use Rattle.file_journal.proofs.HoldLemmas.{get_or-switched, switched_elsewhere, switched_here}
 use Rattle.file_journal.proofs.SwitchLemmas.{page_of, switch_is, unit_for-push_at, unit_for-push_other, unit_for_by, unit_of}
@@ -101,7 +102,7 @@ named_more switches i None below is =
     omega arith
 named_more switches i (Some u) below is = count_by_more_yes (λ (c : ℕ × Option ℕ). is_some c.1) switches i (0, None) below (ap is_some is)
 
-module _ (inode : ℕ) (below : inode < 64) (switches : List (ℕ × Option ℕ)) (old : TableState) (free : List Bool) (was : IsTable old) (are : AreSwitches old.units switches) (to_hold : AreHeld old.pages free switches) where
+module _ (old : TableState) (was : IsTable old) {inode : ℕ} {switches : List (ℕ × Option ℕ)} {free : List Bool} (can : CanSwitch old.units old.pages free inode switches) where
   pub stepped_none : AreTaken old.pages free → AreStepped inode [] old free old free
   stepped_none taken = record {
     pages = ap (λ (ps : List (Option ℕ)). record old { pages = ps }) (same_pages old.pages (switched_pages inode [] old.pages) (sym (length-map_from (switched_page inode []) 0 old.pages)) (λ k low. sym (get_or-switched inode [] old.pages k low ∙ nothing k (get_or old.pages k None))));
@@ -123,7 +124,7 @@ module _ (inode : ℕ) (below : inode < 64) (switches : List (ℕ × Option ℕ)
     entry = 256 * inode + page_of switches i
 
     small : page_of switches i < 256
-    small = are.within i (page_of switches i) (unit_of switches i) (switch_is switches i lt)
+    small = can.are.within i (page_of switches i) (unit_of switches i) (switch_is switches i lt)
 
     units_same : table.units ≡ old.units
     units_same = ap (λ (t : TableState). t.units) step.pages
@@ -135,7 +136,7 @@ module _ (inode : ℕ) (below : inode < 64) (switches : List (ℕ × Option ℕ)
     fresh : (j : ℕ) (u : Option ℕ) → IsSwitch (take i switches) j (page_of switches i) u → ⊥
     fresh j u is =
         let there = switch_take switches i j (page_of switches i) u is in
-        let same = are.distinct j i (page_of switches i) u (unit_of switches i) there.1 (switch_is switches i lt) in
+        let same = can.are.distinct j i (page_of switches i) u (unit_of switches i) there.1 (switch_is switches i lt) in
         omega (arith, there.0)
 
     on_before : (e unit : ℕ) → IsOn table.pages e unit → ((j : ℕ) × (e / 256 ≡ inode) × IsSwitch (take i switches) j (e % 256) (Some unit)) ⊎ IsOn old.pages e unit
@@ -152,17 +153,17 @@ module _ (inode : ℕ) (below : inode < 64) (switches : List (ℕ × Option ℕ)
         ]
 
     new_unit : (unit : ℕ) → unit_of switches i ≡ Some unit → IsTaken free unit × IsVacant old.pages unit
-    new_unit unit is = to_hold i (page_of switches i) unit (switch_is switches i lt ∙ ap (λ (o : Option ℕ). Some (page_of switches i, o)) is)
+    new_unit unit is = can.held i (page_of switches i) unit (switch_is switches i lt ∙ ap (λ (o : Option ℕ). Some (page_of switches i, o)) is)
 
     may_take_by : (o : Option ℕ) → unit_of switches i ≡ o → MayTake table entry o
     may_take_by None is = tt
     may_take_by (Some u) is =
         let here = switch_is switches i lt ∙ ap (λ (o : Option ℕ). Some (page_of switches i, o)) is in (
-          omega (arith, are.below i (page_of switches i) u here, units_same),
+          omega (arith, can.are.below i (page_of switches i) u here, units_same),
           λ other on. elim (on_before other u on) as (λ _. other ≡ entry) [
             | inl found ↦
                 let there = switch_take switches i found.0 (other % 256) (Some u) found.2 in
-                let same = are.own found.0 i (other % 256) (page_of switches i) u there.1 here in
+                let same = can.are.own found.0 i (other % 256) (page_of switches i) u there.1 here in
                 absurd (omega (arith, there.0))
             | inr there ↦ absurd ((new_unit u is).1 other there)
           ],

@@ -1,13 +1,14 @@
 -- The words of changes, and what they make of others.
 use Rattle.std.proofs.Common.{◌≡◌, ◌⊎◌, inl, inr, ℕ, zero, suc, ◌+◌, ◌<◌, ◌≤◌, ◌==◌, ◌||◌, Bool, true, false, List, [], ◌∷◌, ◌++◌, Option, Some, None, IsTrue, length, get_or, if◌then◌else◌, refl, sym, ◌∙◌, ap, ap₂, arith}
 use Rattle.std.proofs.lemmas.Bool.{cases_eq, eq-eqb, ne_eqb}
+use Rattle.std.proofs.lemmas.List.{length-append, length-map}
 use Rattle.word_tables.specs.declared.geometry.Geometry.{Geometry}
-use Rattle.word_tables.specs.Words.{place, of_file_page}
+use Rattle.word_tables.specs.Words.{place, of_file_page, of_inode}
 use Rattle.word_log.specs.Changes.{changed, lists, IsDistinct}
 use Rattle.word_log.proofs.ChangeLemmas.{lists_not}
 use Rattle.page_table.specs.Pages.{word_of}
 use Rattle.nvm_base.specs.declared.files.FileEntry.{FileEntry}
-use Rattle.file_journal.specs.Changes.{numbered, slot_words, switch_words, unit_for}
+use Rattle.file_journal.specs.Changes.{change_words, numbered, slot_words, switch_words, unit_for}
 
 pub changed-append : (xs ys : List (ℕ × ℕ)) (w : ℕ → ℕ) (p : ℕ) → changed (xs ++ ys) w p ≡ changed xs (changed ys w) p
 changed-append [] ys w p = refl
@@ -113,3 +114,10 @@ module _ (geo : Geometry) (inode : ℕ) where
 pub slot_words_few : (slot : Option FileEntry) → (1 ≤ length (slot_words slot)) × (length (slot_words slot) ≤ 5)
 slot_words_few None = (omega arith, omega arith)
 slot_words_few (Some file) = (omega arith, omega arith)
+
+pub change_words_few : (geo : Geometry) (inode : ℕ) (slot : Option FileEntry) (switches : List (ℕ × Option ℕ)) (words : List (ℕ × ℕ)) → words ≡ change_words geo inode slot switches → length words ≤ 5 + length switches
+change_words_few geo inode slot switches words is =
+    let p = place geo (of_inode inode 0) in
+    let more = switch_words geo inode switches in
+    let two : length more ≡ length switches = length-map switches _ in
+    omega (arith, ap length is, length-append (numbered p (slot_words slot)) more, length-numbered p (slot_words slot), (slot_words_few slot).1, two)

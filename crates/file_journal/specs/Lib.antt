@@ -5,6 +5,7 @@ pub mod Switches
 pub mod Holds
 pub mod Object
 pub mod Images
+pub mod Calls
 pub mod Reading
 pub mod Refusals
 pub mod Files

@@ -1,11 +1,11 @@
 // Changes of what is kept in memory.
-ghost use Rattle.std.specs.Prelude.{◌≡◌, ◌+◌, ◌<◌, ◌≤◌, ◌-◌, IfSome, ℕ, slice_set, length};
+ghost use Rattle.std.specs.Prelude.{◌≡◌, ◌+◌, ◌<◌, ◌-◌, ℕ, slice_set, length};
 ghost use Rattle.free_pool.specs.Units.{IsTaken};
 ghost use Rattle.inode_table.specs.Slots as names;
 ghost use Rattle.page_table.specs.Pages as units;
 ghost use Rattle.page_table.specs.Pages.{used_pages};
+ghost use Rattle.file_journal.specs.Calls.{CanSwitch, MaySet};
 ghost use Rattle.file_journal.specs.Changes.{named_units, switched_pages};
-ghost use Rattle.file_journal.specs.Switches.{AreHeld, AreSwitches};
 ghost use Rattle.file_journal.specs.Tables.{AreTaken, IsVacant, known_units};
 
 use free_pool::Pool;
@@ -16,8 +16,7 @@ use page_table::PageTable;
 /// Makes an inode that slot.
 pub(crate) fn assign(inodes: &mut Inodes, inode: u64, slot: &Option<FileEntry>)
     requires inode { inode < 64 }
-    requires name { IfSome slot.now (λ file. names.MayTake inodes.old inode file.name) }
-    requires pages { IfSome slot.now (λ file. file.pages ≤ 256) }
+    requires set { MaySet inodes.old inode slot.now }
     ensures slots { inodes.new ≡ slice_set inodes.old inode slot.now }
     ensures table { names.IsTable inodes.new }
 {
@@ -34,11 +33,9 @@ pub(crate) fn switch_units(
     inode: u64,
     switches: &[(u64, Option<u64>)],
 )
-    requires inode { inode < 64 }
+    requires can { CanSwitch table.old.units table.old.pages pool.old inode switches.now }
     requires table { units.IsTable table.old }
     requires all { length pool.old ≡ table.old.units }
-    requires switches { AreSwitches table.old.units switches.now }
-    requires held { AreHeld table.old.pages pool.old switches.now }
     requires taken { AreTaken table.old.pages pool.old }
     ensures pages { table.new ≡ record table.old { pages = switched_pages inode switches.now table.old.pages } }
     ensures table { units.IsTable table.new }

@@ -1,21 +1,20 @@
 // One commit for all the words of a change, and then the same in memory.
-ghost use Rattle.std.specs.Prelude.{◌≡◌, ◌+◌, ◌<◌, ◌≤◌, IfSome, IsTrue, OnOk, false, length};
+ghost use Rattle.std.specs.Prelude.{◌≡◌, ◌+◌, IsTrue, OnOk, length};
 ghost use Rattle.std.specs.Result.{is_ok};
 ghost use Rattle.line_device.specs.Panel.{Runs};
 ghost use Rattle.line_words.specs.Words.{WritesBackOutside};
 ghost use Rattle.line_words.specs.Ending.{ended};
 ghost use Rattle.nvm_model.specs.Lines.{AreGood, AreStrong};
-ghost use Rattle.inode_table.specs.Slots as names;
 ghost use Rattle.word_log.specs.Area.{IsOf};
 ghost use Rattle.word_log.specs.Changes.{commit_calls, commit_persists};
 ghost use Rattle.word_tables.specs.Bounds.{IsValid};
 ghost use Rattle.word_tables.specs.Layout.{meta_lines, total_lines};
 ghost use Rattle.file_journal.specs.Area.{file_area};
+ghost use Rattle.file_journal.specs.Calls.{CanSwitch, IsReady, MaySet, Works};
 ghost use Rattle.file_journal.specs.Changes.{changed_tables, named_units};
 ghost use Rattle.file_journal.specs.Holds.{Turns};
 ghost use Rattle.file_journal.specs.Images.{EachReadsTables, IsEither};
-ghost use Rattle.file_journal.specs.Object.{JournalServes, KeepsUnits, RestsWith};
-ghost use Rattle.file_journal.specs.Switches.{AreHeld, AreSwitches};
+ghost use Rattle.file_journal.specs.Object.{RestsWith};
 ghost use Rattle.file_journal.specs.Tables.{AreTables, Tables};
 
 use crate::Journal;
@@ -36,25 +35,13 @@ impl Journal {
         slot: &Option<FileEntry>,
         switches: &[(u64, Option<u64>)],
     ) -> Result<(), Interruption>
-        requires serves { JournalServes self.old (L.state dev.old).medium }
-        requires settled { IsTrue self.old.settled }
-        requires on { IsTrue (L.state dev.old).panel.power }
+        requires ready { IsReady self.old (L.state dev.old) }
         requires good { AreGood (L.state dev.old).medium (meta_lines self.old.geo) }
-        requires inode { inode < 64 }
-        requires name { IfSome slot.now (λ file. names.MayTake self.old.tables.files inode file.name) }
-        requires pages { IfSome slot.now (λ file. file.pages ≤ 256) }
-        requires switches { AreSwitches self.old.geo.fpages switches.now }
-        requires held { AreHeld self.old.tables.pages self.old.free switches.now }
+        requires set { MaySet self.old.tables.files inode slot.now }
+        requires can { CanSwitch self.old.geo.fpages self.old.tables.pages self.old.free inode switches.now }
         requires after { AreTables self.old.geo.fpages (changed_tables inode slot.now switches.now self.old.tables) }
-        ensures ok { OnOk result (self.new.tables ≡ changed_tables inode slot.now switches.now self.old.tables) }
-        ensures images { EachReadsTables self.old.geo (L.state dev.new).medium
-            (IsEither self.old.tables (changed_tables inode slot.now switches.now self.old.tables)) }
-        ensures outside { WritesBackOutside (IsOf (file_area self.old.geo)) (L.state dev.old).medium (L.state dev.new).medium }
-        ensures serves { OnOk result (JournalServes self.new (L.state dev.new).medium) }
-        ensures object { (self.new.geo ≡ self.old.geo) × (self.new.settled ≡ is_ok result) }
-        ensures units { OnOk result (KeepsUnits (named_units switches.now) self.old self.new) }
-        ensures runs { Runs (commit_calls (5 + length switches.now)) (commit_persists (5 + length switches.now)) (ended result)
-            (L.state dev.old).panel (L.state dev.new).panel }
+        ensures works { Works L.state self.old self.new dev.old dev.new result (changed_tables inode slot.now switches.now self.old.tables)
+            (named_units switches.now) (5 + length switches.now) }
     {
         self.settled = false;
         let words = change_words(self.geo, inode, slot, switches);

@@ -1,11 +1,11 @@
 // When calls are refused. None of this makes a counted call.
 ghost use Rattle.std.specs.Prelude.{◌≡◌, ◌≤◌, ◌<◌, IfOk, IsNone, None, OnOk, Some, ℕ};
-ghost use Rattle.line_device.specs.Panel.Outcome.{went};
-ghost use Rattle.line_words.specs.Told.{Checks, outcome_by};
+ghost use Rattle.line_words.specs.Told.{Checks};
 ghost use Rattle.nvm_model.specs.Lines.{AreGood};
 ghost use Rattle.word_tables.specs.Bounds.{IsValid};
 ghost use Rattle.word_tables.specs.Layout.{meta_lines, total_lines};
 ghost use Rattle.inode_table.specs.Slots.{IsNamed, IsTable, MayTake, free_inode, inode_of};
+ghost use Rattle.file_journal.specs.Calls.{FindsInode};
 ghost use Rattle.file_journal.specs.Object.{JournalServes};
 ghost use Rattle.file_journal.specs.Refusals.{create_refusal, delete_refusal, exists_refusal, journal_says, limit_refusal, metadata_refusal, missing_refusal, rename_refusal, resize_refusal, slots_refusal};
 
@@ -25,13 +25,10 @@ impl Journal {
         pages: u64,
     ) -> Result<u64, JournalFault>
         requires serves { JournalServes self.now (L.state dev.now).medium }
-        ensures refused { Checks journal_says (create_refusal self.now (L.state dev.now).medium name.now pages) result }
-        ensures inode { IfOk result (λ inode. free_inode self.now.tables.files ≡ Some inode) }
-        ensures within { IfOk result (λ inode. inode < 64) }
+        ensures finds { FindsInode self.now (L.state dev.now).medium result
+            (create_refusal self.now (L.state dev.now).medium name.now pages) (free_inode self.now.tables.files) }
         ensures may { IfOk result (λ inode. MayTake self.now.tables.files inode name.now) }
         ensures few { OnOk result (pages ≤ 256) }
-        ensures good { OnOk result (AreGood (L.state dev.now).medium (meta_lines self.now.geo)) }
-        ensures went { outcome_by journal_says result ≡ went }
     {
         self.check_unnamed(name)?;
         check_limit(pages)?;
@@ -43,12 +40,9 @@ impl Journal {
     // The inode of a file to be deleted.
     pub(crate) fn check_delete<L: Lines>(&self, dev: &L, name: &Name) -> Result<u64, JournalFault>
         requires serves { JournalServes self.now (L.state dev.now).medium }
-        ensures refused { Checks journal_says (delete_refusal self.now (L.state dev.now).medium name.now) result }
-        ensures inode { IfOk result (λ inode. inode_of name.now self.now.tables.files ≡ Some inode) }
-        ensures within { IfOk result (λ inode. inode < 64) }
-        ensures good { OnOk result (AreGood (L.state dev.now).medium (meta_lines self.now.geo)) }
+        ensures finds { FindsInode self.now (L.state dev.now).medium result
+            (delete_refusal self.now (L.state dev.now).medium name.now) (inode_of name.now self.now.tables.files) }
         ensures table { IsTable self.now.tables.files }
-        ensures went { outcome_by journal_says result ≡ went }
     {
         let inode = self.named(name)?;
         check_meta(dev, self.geo)?;
@@ -63,13 +57,10 @@ impl Journal {
         to: &Name,
     ) -> Result<u64, JournalFault>
         requires serves { JournalServes self.now (L.state dev.now).medium }
-        ensures refused { Checks journal_says (rename_refusal self.now (L.state dev.now).medium name.now to.now) result }
-        ensures inode { IfOk result (λ inode. inode_of name.now self.now.tables.files ≡ Some inode) }
-        ensures within { IfOk result (λ inode. inode < 64) }
+        ensures finds { FindsInode self.now (L.state dev.now).medium result
+            (rename_refusal self.now (L.state dev.now).medium name.now to.now) (inode_of name.now self.now.tables.files) }
         ensures may { IfOk result (λ inode. MayTake self.now.tables.files inode to.now) }
-        ensures good { OnOk result (AreGood (L.state dev.now).medium (meta_lines self.now.geo)) }
         ensures table { IsTable self.now.tables.files }
-        ensures went { outcome_by journal_says result ≡ went }
     {
         let inode = self.named(name)?;
         self.check_unnamed(to)?;
@@ -85,14 +76,11 @@ impl Journal {
         pages: u64,
     ) -> Result<u64, JournalFault>
         requires serves { JournalServes self.now (L.state dev.now).medium }
-        ensures refused { Checks journal_says (resize_refusal self.now (L.state dev.now).medium name.now pages) result }
-        ensures inode { IfOk result (λ inode. inode_of name.now self.now.tables.files ≡ Some inode) }
-        ensures within { IfOk result (λ inode. inode < 64) }
+        ensures finds { FindsInode self.now (L.state dev.now).medium result
+            (resize_refusal self.now (L.state dev.now).medium name.now pages) (inode_of name.now self.now.tables.files) }
         ensures may { IfOk result (λ inode. MayTake self.now.tables.files inode name.now) }
         ensures few { OnOk result (pages ≤ 256) }
-        ensures good { OnOk result (AreGood (L.state dev.now).medium (meta_lines self.now.geo)) }
         ensures table { IsTable self.now.tables.files }
-        ensures went { outcome_by journal_says result ≡ went }
     {
         let inode = self.named(name)?;
         check_limit(pages)?;

@@ -1,22 +1,12 @@
 // Files made, deleted, renamed and resized.
-ghost use Rattle.std.specs.Prelude.{◌≡◌, ◌+◌, ◌-◌, ◌<◌, ◌≤◌, IfSome, IsTrue, OnOk, true};
-ghost use Rattle.std.specs.Result.{is_ok};
-ghost use Rattle.inode_table.specs.Slots as names;
+ghost use Rattle.std.specs.Prelude.{◌≡◌, ◌+◌, ◌-◌, ◌<◌, IfSome, true};
 ghost use Rattle.inode_table.specs.Slots.{pages_at, pages_of};
-ghost use Rattle.line_device.specs.Panel.{Runs};
-ghost use Rattle.line_words.specs.Told.{Answers, OnRefused, OnWorked, is_done, outcome_by};
-ghost use Rattle.line_words.specs.Words.{WritesBackOutside};
-ghost use Rattle.line_words.specs.Ending.{ended};
 ghost use Rattle.nvm_base.specs.Names.{is_name};
 ghost use Rattle.nvm_model.specs.Lines.{AreGood};
-ghost use Rattle.word_log.specs.Area.{IsOf};
-ghost use Rattle.word_log.specs.Changes.{commit_calls, commit_persists};
 ghost use Rattle.word_tables.specs.Layout.{meta_lines};
-ghost use Rattle.file_journal.specs.Area.{file_area};
+ghost use Rattle.file_journal.specs.Calls.{ChangesFiles, IsReady, MaySet, Works};
 ghost use Rattle.file_journal.specs.Changes.{created, deleted, renamed, replaced, resized};
-ghost use Rattle.file_journal.specs.Images.{EachReadsTables, IsEither};
-ghost use Rattle.file_journal.specs.Object.{JournalServes, KeepsUnits};
-ghost use Rattle.file_journal.specs.Refusals.{create_refusal, delete_refusal, journal_says, rename_refusal, resize_refusal};
+ghost use Rattle.file_journal.specs.Refusals.{create_refusal, delete_refusal, rename_refusal, resize_refusal};
 
 use crate::words::holes;
 use crate::{Journal, JournalFault};
@@ -32,20 +22,9 @@ impl Journal {
         name: &Name,
         pages: u64,
     ) -> Result<(), JournalFault>
-        requires serves { JournalServes self.old (L.state dev.old).medium }
-        requires settled { IsTrue self.old.settled }
-        requires on { IsTrue (L.state dev.old).panel.power }
-        ensures refused { Answers journal_says (create_refusal self.old (L.state dev.old).medium name.now pages) result }
-        ensures untouched { OnRefused journal_says result ((self.new ≡ self.old) × (dev.new ≡ dev.old)) }
-        ensures ok { OnOk result (self.new.tables ≡ created name.now pages self.old.tables) }
-        ensures images { OnWorked journal_says result (EachReadsTables self.old.geo (L.state dev.new).medium
-            (IsEither self.old.tables (created name.now pages self.old.tables))) }
-        ensures outside { WritesBackOutside (IsOf (file_area self.old.geo)) (L.state dev.old).medium (L.state dev.new).medium }
-        ensures serves { IsTrue self.new.settled → JournalServes self.new (L.state dev.new).medium }
-        ensures object { (self.new.geo ≡ self.old.geo) × (self.new.settled ≡ is_done (outcome_by journal_says result)) }
-        ensures units { OnOk result (KeepsUnits 0 self.old self.new) }
-        ensures runs { Runs (commit_calls 5) (commit_persists 5) (outcome_by journal_says result)
-            (L.state dev.old).panel (L.state dev.new).panel }
+        requires ready { IsReady self.old (L.state dev.old) }
+        ensures changes { ChangesFiles L.state self.old self.new dev.old dev.new result
+            (create_refusal self.old (L.state dev.old).medium name.now pages) (created name.now pages self.old.tables) 0 5 }
     {
         let inode = self.check_create(dev, name, pages)?;
         let _is_name = name.bytes();
@@ -56,20 +35,9 @@ impl Journal {
 
     /// Deletes the file of that name, and gives its units back.
     pub fn delete<L: Lines>(&mut self, dev: &mut L, name: &Name) -> Result<(), JournalFault>
-        requires serves { JournalServes self.old (L.state dev.old).medium }
-        requires settled { IsTrue self.old.settled }
-        requires on { IsTrue (L.state dev.old).panel.power }
-        ensures refused { Answers journal_says (delete_refusal self.old (L.state dev.old).medium name.now) result }
-        ensures untouched { OnRefused journal_says result ((self.new ≡ self.old) × (dev.new ≡ dev.old)) }
-        ensures ok { OnOk result (self.new.tables ≡ deleted name.now self.old.tables) }
-        ensures images { OnWorked journal_says result (EachReadsTables self.old.geo (L.state dev.new).medium
-            (IsEither self.old.tables (deleted name.now self.old.tables))) }
-        ensures outside { WritesBackOutside (IsOf (file_area self.old.geo)) (L.state dev.old).medium (L.state dev.new).medium }
-        ensures serves { IsTrue self.new.settled → JournalServes self.new (L.state dev.new).medium }
-        ensures object { (self.new.geo ≡ self.old.geo) × (self.new.settled ≡ is_done (outcome_by journal_says result)) }
-        ensures units { OnOk result (KeepsUnits 0 self.old self.new) }
-        ensures runs { Runs (commit_calls 261) (commit_persists 261) (outcome_by journal_says result)
-            (L.state dev.old).panel (L.state dev.new).panel }
+        requires ready { IsReady self.old (L.state dev.old) }
+        ensures changes { ChangesFiles L.state self.old self.new dev.old dev.new result
+            (delete_refusal self.old (L.state dev.old).medium name.now) (deleted name.now self.old.tables) 0 261 }
     {
         let inode = self.check_delete(dev, name)?;
         self.replace(dev, inode, &None)?;
@@ -83,20 +51,9 @@ impl Journal {
         name: &Name,
         to: &Name,
     ) -> Result<(), JournalFault>
-        requires serves { JournalServes self.old (L.state dev.old).medium }
-        requires settled { IsTrue self.old.settled }
-        requires on { IsTrue (L.state dev.old).panel.power }
-        ensures refused { Answers journal_says (rename_refusal self.old (L.state dev.old).medium name.now to.now) result }
-        ensures untouched { OnRefused journal_says result ((self.new ≡ self.old) × (dev.new ≡ dev.old)) }
-        ensures ok { OnOk result (self.new.tables ≡ renamed name.now to.now self.old.tables) }
-        ensures images { OnWorked journal_says result (EachReadsTables self.old.geo (L.state dev.new).medium
-            (IsEither self.old.tables (renamed name.now to.now self.old.tables))) }
-        ensures outside { WritesBackOutside (IsOf (file_area self.old.geo)) (L.state dev.old).medium (L.state dev.new).medium }
-        ensures serves { IsTrue self.new.settled → JournalServes self.new (L.state dev.new).medium }
-        ensures object { (self.new.geo ≡ self.old.geo) × (self.new.settled ≡ is_done (outcome_by journal_says result)) }
-        ensures units { OnOk result (KeepsUnits 0 self.old self.new) }
-        ensures runs { Runs (commit_calls 5) (commit_persists 5) (outcome_by journal_says result)
-            (L.state dev.old).panel (L.state dev.new).panel }
+        requires ready { IsReady self.old (L.state dev.old) }
+        ensures changes { ChangesFiles L.state self.old self.new dev.old dev.new result
+            (rename_refusal self.old (L.state dev.old).medium name.now to.now) (renamed name.now to.now self.old.tables) 0 5 }
     {
         let inode = self.check_rename(dev, name, to)?;
         let _is_name = to.bytes();
@@ -115,20 +72,9 @@ impl Journal {
         name: &Name,
         pages: u64,
     ) -> Result<(), JournalFault>
-        requires serves { JournalServes self.old (L.state dev.old).medium }
-        requires settled { IsTrue self.old.settled }
-        requires on { IsTrue (L.state dev.old).panel.power }
-        ensures refused { Answers journal_says (resize_refusal self.old (L.state dev.old).medium name.now pages) result }
-        ensures untouched { OnRefused journal_says result ((self.new ≡ self.old) × (dev.new ≡ dev.old)) }
-        ensures ok { OnOk result (self.new.tables ≡ resized name.now pages self.old.tables) }
-        ensures images { OnWorked journal_says result (EachReadsTables self.old.geo (L.state dev.new).medium
-            (IsEither self.old.tables (resized name.now pages self.old.tables))) }
-        ensures outside { WritesBackOutside (IsOf (file_area self.old.geo)) (L.state dev.old).medium (L.state dev.new).medium }
-        ensures serves { IsTrue self.new.settled → JournalServes self.new (L.state dev.new).medium }
-        ensures object { (self.new.geo ≡ self.old.geo) × (self.new.settled ≡ is_done (outcome_by journal_says result)) }
-        ensures units { OnOk result (KeepsUnits 0 self.old self.new) }
-        ensures runs { Runs (commit_calls 261) (commit_persists 261) (outcome_by journal_says result)
-            (L.state dev.old).panel (L.state dev.new).panel }
+        requires ready { IsReady self.old (L.state dev.old) }
+        ensures changes { ChangesFiles L.state self.old self.new dev.old dev.new result
+            (resize_refusal self.old (L.state dev.old).medium name.now pages) (resized name.now pages self.old.tables) 0 261 }
     {
         let inode = self.check_resize(dev, name, pages)?;
         let _is_name = name.bytes();
@@ -144,24 +90,13 @@ impl Journal {
         inode: u64,
         slot: &Option<FileEntry>,
     ) -> Result<(), Interruption>
-        requires serves { JournalServes self.old (L.state dev.old).medium }
-        requires settled { IsTrue self.old.settled }
-        requires on { IsTrue (L.state dev.old).panel.power }
+        requires ready { IsReady self.old (L.state dev.old) }
         requires good { AreGood (L.state dev.old).medium (meta_lines self.old.geo) }
         requires inode { inode < 64 }
-        requires name { IfSome slot.now (λ file. names.MayTake self.old.tables.files inode file.name) }
+        requires set { MaySet self.old.tables.files inode slot.now }
         requires named { IfSome slot.now (λ file. is_name file.name ≡ true) }
-        requires pages { IfSome slot.now (λ file. file.pages ≤ 256) }
-        ensures ok { OnOk result (self.new.tables ≡ replaced inode slot.now self.old.tables) }
-        ensures images { EachReadsTables self.old.geo (L.state dev.new).medium
-            (IsEither self.old.tables (replaced inode slot.now self.old.tables)) }
-        ensures outside { WritesBackOutside (IsOf (file_area self.old.geo)) (L.state dev.old).medium (L.state dev.new).medium }
-        ensures serves { OnOk result (JournalServes self.new (L.state dev.new).medium) }
-        ensures object { (self.new.geo ≡ self.old.geo) × (self.new.settled ≡ is_ok result) }
-        ensures units { OnOk result (KeepsUnits 0 self.old self.new) }
-        ensures runs { Runs (commit_calls (5 + (pages_at self.old.tables.files inode - pages_of slot.now)))
-            (commit_persists (5 + (pages_at self.old.tables.files inode - pages_of slot.now))) (ended result)
-            (L.state dev.old).panel (L.state dev.new).panel }
+        ensures works { Works L.state self.old self.new dev.old dev.new result (replaced inode slot.now self.old.tables) 0
+            (5 + (pages_at self.old.tables.files inode - pages_of slot.now)) }
     {
         let before = self.inodes.pages(inode);
         let after = pages_of(slot);

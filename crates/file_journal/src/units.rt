@@ -1,20 +1,15 @@
 // Units for pages to come, and pages that are switched to them.
-ghost use Rattle.std.specs.Prelude.{◌≡◌, ◌+◌, ◌↔◌, ◌<◌, ◌≤◌, ◌⊎◌, ℕ, Bool, IfSome, IsNone, IsTrue, MatchOption, None, OnOk, Option, false, length, slice_index_or, slice_set, true};
+ghost use Rattle.std.specs.Prelude.{◌≡◌, ◌+◌, ◌↔◌, ◌<◌, ◌≤◌, ◌⊎◌, ℕ, Bool, IfSome, IsNone, MatchOption, None, OnOk, Option, false, length, slice_index_or, slice_set, true};
 ghost use Rattle.free_pool.specs.Units.{IsFree, IsTaken, free_count};
 ghost use Rattle.inode_table.specs.Slots.{pages_at};
 ghost use Rattle.line_device.specs.Medium.{Medium};
-ghost use Rattle.line_device.specs.Panel.{Runs};
-ghost use Rattle.line_words.specs.Told.{Answers, Checks, OnRefused, OnWorked, is_done, outcome_by};
-ghost use Rattle.line_words.specs.Words.{WritesBackOutside};
+ghost use Rattle.line_words.specs.Told.{Checks};
 ghost use Rattle.page_table.specs.Pages.{used_pages};
-ghost use Rattle.word_log.specs.Area.{IsOf};
-ghost use Rattle.word_log.specs.Changes.{commit_calls, commit_persists};
-ghost use Rattle.file_journal.specs.Area.{file_area};
+ghost use Rattle.file_journal.specs.Calls.{CanSwitch, ChangesFiles, IsReady};
 ghost use Rattle.file_journal.specs.Changes.{filled_holes, named_units, switched};
-ghost use Rattle.file_journal.specs.Images.{EachReadsTables, IsEither};
-ghost use Rattle.file_journal.specs.Object.{JournalServes, KeepsUnits};
+ghost use Rattle.file_journal.specs.Object.{JournalServes};
 ghost use Rattle.file_journal.specs.Refusals.{full_refusal, journal_says, switch_refusal};
-ghost use Rattle.file_journal.specs.Switches.{AreHeld, AreSwitches, ArePagesOf};
+ghost use Rattle.file_journal.specs.Switches.{AreSwitches, ArePagesOf};
 ghost use Rattle.file_journal.specs.Tables.{AreTables, IsVacant};
 
 use crate::checks::check_meta;
@@ -53,24 +48,12 @@ impl Journal {
         inode: u64,
         pages: &[(u64, Option<u64>)],
     ) -> Result<(), JournalFault>
-        requires serves { JournalServes self.old (L.state dev.old).medium }
-        requires settled { IsTrue self.old.settled }
-        requires on { IsTrue (L.state dev.old).panel.power }
-        requires inode { inode < 64 }
-        requires switches { AreSwitches self.old.geo.fpages pages.now }
+        requires ready { IsReady self.old (L.state dev.old) }
+        requires can { CanSwitch self.old.geo.fpages self.old.tables.pages self.old.free inode pages.now }
         requires within { ArePagesOf (pages_at self.old.tables.files inode) pages.now }
-        requires held { AreHeld self.old.tables.pages self.old.free pages.now }
-        ensures refused { Answers journal_says (switch_refusal self.old (L.state dev.old).medium inode pages.now) result }
-        ensures untouched { OnRefused journal_says result ((self.new ≡ self.old) × (dev.new ≡ dev.old)) }
-        ensures ok { OnOk result (self.new.tables ≡ switched inode pages.now self.old.tables) }
-        ensures images { OnWorked journal_says result (EachReadsTables self.old.geo (L.state dev.new).medium
-            (IsEither self.old.tables (switched inode pages.now self.old.tables))) }
-        ensures outside { WritesBackOutside (IsOf (file_area self.old.geo)) (L.state dev.old).medium (L.state dev.new).medium }
-        ensures serves { IsTrue self.new.settled → JournalServes self.new (L.state dev.new).medium }
-        ensures object { (self.new.geo ≡ self.old.geo) × (self.new.settled ≡ is_done (outcome_by journal_says result)) }
-        ensures units { OnOk result (KeepsUnits (named_units pages.now) self.old self.new) }
-        ensures runs { Runs (commit_calls (5 + length pages.now)) (commit_persists (5 + length pages.now))
-            (outcome_by journal_says result) (L.state dev.old).panel (L.state dev.new).panel }
+        ensures changes { ChangesFiles L.state self.old self.new dev.old dev.new result
+            (switch_refusal self.old (L.state dev.old).medium inode pages.now) (switched inode pages.now self.old.tables)
+            (named_units pages.now) (5 + length pages.now) }
     {
         self.check_room(inode, pages)?;
         check_meta(dev, self.geo)?;

@@ -1,22 +1,15 @@
-use Rattle.std.proofs.Common.{◌-◌, Option, Some, refl, arith}
-use Rattle.nvm_base.specs.declared.files.FileEntry.{FileEntry}
-use Rattle.inode_table.specs.Slots.{pages_at, pages_of}
-use Rattle.line_words.proofs.FrameLemmas.{outside-refl}
-use Rattle.file_journal.proofs.ReplaceLemmas.{pages_at_free}
-use Rattle.file_journal.proofs.RunLemmas.{few_runs, stopped_as}
+use Rattle.std.proofs.Common.{Some, rules, arith}
+use Rattle.line_words.proofs.ToldLemmas.{checks_passed}
+use Rattle.file_journal.specs.Refusals.{journal_says}
+use Rattle.file_journal.proofs.CallLemmas.{done_changes, refused_changes, stopped_changes}
+use Rattle.file_journal.proofs.ReplaceLemmas.{pages_at_free, replaced_found}
 use Rattle.file_journal.proofs.Journal.create.Goals as goal
 
-pub returns-in_err-inode-clause-outside : goal.returns-in_err-inode-clause-outside
-returns-in_err-inode-clause-outside g c = outside-refl _ _
+pub returns-in_err-inode : goal.returns-in_err-inode
+returns-in_err-inode g c = record { changes = refused_changes _ _ _ _ _ _ _ _ (search rules) (search rules) c.requires.ready }
 
-pub returns-in_err-replace-clause-runs : goal.returns-in_err-replace-clause-runs
-returns-in_err-replace-clause-runs g c =
-    let slot : Option FileEntry = (Some (record { name = c.args.name.now; pages = c.args.pages })) in
-    let n = pages_at c.args.self.now.tables.files c.in_ok-inode.inode - pages_of slot in
-    few_runs n 0 _ _ _ _ (omega (arith, pages_at_free c.args.self.now.tables.files c.in_ok-inode.inode c.in_ok-inode.ensures.inode)) (stopped_as c.from_residual-in_err-replace.result c.in_err-replace.field-0.0 c.from_residual-in_err-replace.ensures.1) c.in_err-replace.ensures.runs
+pub returns-in_err-replace : goal.returns-in_err-replace
+returns-in_err-replace g c = record { changes = stopped_changes _ _ _ _ _ _ (checks_passed journal_says _ _ c.in_ok-inode.ensures.finds.refused) _ _ (replaced_found _ _ (λ _. Some (record { name = c.args.name.now; pages = c.args.pages })) _ c.in_ok-inode.ensures.finds.inode) _ _ _ (omega (arith, pages_at_free _ _ c.in_ok-inode.ensures.finds.inode)) _ _ c.from_residual-in_err-replace.ensures.1 c.in_err-replace.ensures.works }
 
-pub returns-clause-runs : goal.returns-clause-runs
-returns-clause-runs g c =
-    let slot : Option FileEntry = (Some (record { name = c.args.name.now; pages = c.args.pages })) in
-    let n = pages_at c.args.self.now.tables.files c.in_ok-inode.inode - pages_of slot in
-    few_runs n 0 _ _ _ _ (omega (arith, pages_at_free c.args.self.now.tables.files c.in_ok-inode.inode c.in_ok-inode.ensures.inode)) refl c.in_ok-replace.ensures.runs
+pub returns : goal.returns
+returns g c = record { changes = done_changes _ _ _ _ _ _ (checks_passed journal_says _ _ c.in_ok-inode.ensures.finds.refused) _ _ (replaced_found _ _ (λ _. Some (record { name = c.args.name.now; pages = c.args.pages })) _ c.in_ok-inode.ensures.finds.inode) _ _ _ (omega (arith, pages_at_free _ _ c.in_ok-inode.ensures.finds.inode)) _ _ c.in_ok-replace.ensures.works }

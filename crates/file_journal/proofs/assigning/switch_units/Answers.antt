@@ -6,17 +6,17 @@ use Rattle.file_journal.proofs.assigning.switch_units.Goals as goal
 use Rattle.file_journal.proofs.assigning.switch_units.Goals.{in-Some, in_default}
 
 pub loop-page-init : goal.loop-page-init
-loop-page-init c = stepped_none c.args.inode c.requires.inode c.args.switches.now c.args.table.now c.args.pool.now c.requires.table c.requires.switches c.requires.held c.requires.taken
+loop-page-init c = stepped_none c.args.table.now c.requires.table c.requires.can c.requires.taken
 
 pub set-requires-clause-unit : goal.set-requires-clause-unit
 set-requires-clause-unit c =
-    may_take c.args.inode c.requires.inode c.args.switches.now c.args.table.now c.args.pool.now c.requires.table c.requires.switches c.requires.held
-    c.loop-page.page-index c.loop-page-test.true c.loop-page.table c.loop-page.pool c.loop-page.invariant
+    may_take c.args.table.now c.requires.table c.requires.can
+    c.loop-page.page-index c.loop-page-test.true _ _ c.loop-page.invariant
 
 pub give-requires : goal.give-requires
 give-requires c =
-    left_taken c.args.inode c.requires.inode c.args.switches.now c.args.table.now c.args.pool.now c.requires.table c.requires.switches c.requires.held
-    c.loop-page.page-index c.loop-page-test.true c.loop-page.table c.loop-page.pool c.loop-page.invariant c.set.new.self c.set.ensures.pages c.set.ensures.table
+    left_taken c.args.table.now c.requires.table c.requires.can
+    c.loop-page.page-index c.loop-page-test.true _ _ c.loop-page.invariant c.set.new.self c.set.ensures.pages c.set.ensures.table
     c.in-Some.unit (c.get-left.ensures.unit ∙ ap (λ (o : Option ℕ). Some o) c.in-Some.is)
 
 no_unit : (o : Option ℕ) → ((u : ℕ) → o ≡ Some u → ⊥) → o ≡ None
@@ -32,13 +32,13 @@ loop-page-preserved c =
     elim c.match-left.branch [
       | in-Some w ↦
           subst (λ (left : List Bool). AreStepped inode (take (i + 1) switches) c.args.table.now c.args.pool.now next left) (sym (w.pool-is ∙ w.give.ensures))
-          (stepped_unit inode c.requires.inode switches c.args.table.now c.args.pool.now c.requires.table c.requires.switches c.requires.held
-          i c.loop-page-test.true c.loop-page.table c.loop-page.pool c.loop-page.invariant next c.set.ensures.pages c.set.ensures.table
+          (stepped_unit c.args.table.now c.requires.table c.requires.can
+          i c.loop-page-test.true _ _ c.loop-page.invariant next c.set.ensures.pages c.set.ensures.table
           w.in-Some.unit (c.get-left.ensures.unit ∙ ap (λ (o : Option ℕ). Some o) w.in-Some.is))
       | in_default w ↦
           subst (λ (left : List Bool). AreStepped inode (take (i + 1) switches) c.args.table.now c.args.pool.now next left) (sym w.pool-is)
-          (stepped_hole inode c.requires.inode switches c.args.table.now c.args.pool.now c.requires.table c.requires.switches c.requires.held
-          i c.loop-page-test.true c.loop-page.table c.loop-page.pool c.loop-page.invariant next c.set.ensures.pages c.set.ensures.table
+          (stepped_hole c.args.table.now c.requires.table c.requires.can
+          i c.loop-page-test.true _ _ c.loop-page.invariant next c.set.ensures.pages c.set.ensures.table
           (c.get-left.ensures.unit ∙ ap (λ (o : Option ℕ). Some o) (no_unit c.get-left.result w.in_default.not-Some)))
     ]
 
