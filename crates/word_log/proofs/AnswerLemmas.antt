@@ -9,6 +9,11 @@ use Rattle.word_log.specs.Mount.Finding.{bad_line, wrong_word}
 pub pair_same : (a b c d : ℕ) → a ≡ b → c ≡ d → ◌≡◌ {A = ℕ × ℕ} (a, c) (b, d)
 pair_same a b c d first second = ap (λ x. (x, c)) first ∙ ap (λ y. (b, y)) second
 
+-- an answer that hands a fault on is that fault
+pub is_fault : {T E : Type 0} (r : Result T E) (fault : E) → IsErrAnd r (λ e. e ≡ fault) → r ≡ Err fault
+is_fault (Ok x) fault is = absurd is
+is_fault (Err e) fault is = ap Err is
+
 pub match_option-then : {T P P' : Type 0} {Q Q' : T → Type 0} (o : Option T) → MatchOption o P Q → (P → P') → ((x : T) → Q x → Q' x) → MatchOption o P' Q'
 match_option-then None h none some = none h
 match_option-then (Some x) h none some = some x h

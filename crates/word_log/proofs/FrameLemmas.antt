@@ -1,8 +1,9 @@
 -- What stays where only some words are changed.
-use Rattle.std.proofs.Common.{◌≡◌, inl, inr, ℕ, false, ◌+◌, ◌*◌, ◌/◌, ◌<◌, ◌≤◌, sym, ◌∙◌, subst, arith}
+use Rattle.std.proofs.Common.{◌≡◌, inl, inr, ℕ, false, ◌+◌, ◌*◌, ◌/◌, ◌<◌, ◌≤◌, IsTrue, sym, ◌∙◌, subst, arith}
+use Rattle.line_device.specs.Device.{Device}
 use Rattle.line_device.specs.Medium.{Medium}
 use Rattle.word_log.specs.declared.area.LogArea.{LogArea}
-use Rattle.word_log.specs.Area.{Fits, IsStrong, IsWhole, IsOf, IsHome}
+use Rattle.word_log.specs.Area.{Fits, IsStrong, IsUsable, IsWhole, IsOf, IsHome}
 use Rattle.line_words.proofs.FrameLemmas.{good_line-outside}
 use Rattle.line_words.specs.Words.{IsGoodLine, WritesBackOutside}
 
@@ -19,6 +20,14 @@ strong-outside area inside a b strong x p of = x.weak (p / 8) ∙ strong p of
 
 pub whole-outside : (area : LogArea) (inside : ℕ → Type 0) (a b : Medium) → IsWhole area a → WritesBackOutside inside a b → IsWhole area b
 whole-outside area inside a b whole x p of = x.bad (p / 8) ∙ whole p of
+
+pub usable-outside : (area : LogArea) (inside : ℕ → Type 0) (a b : Device) → IsUsable area a → IsTrue b.panel.power → WritesBackOutside inside a.medium b.medium → IsUsable area b
+usable-outside area inside a b usable on x = record {
+  on = on;
+  fits = fits-outside area inside a.medium b.medium usable.fits x;
+  strong = strong-outside area inside a.medium b.medium usable.strong x;
+  whole = whole-outside area inside a.medium b.medium usable.whole x;
+}
 
 -- lines of log and home can be worked on
 pub log_good_line : (area : LogArea) (m : Medium) (line : ℕ) → Fits area m → IsStrong area m → IsWhole area m → area.log.start ≤ line → line < area.log.start + area.log.len → IsGoodLine m line

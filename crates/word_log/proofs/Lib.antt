@@ -10,5 +10,6 @@ pub mod ValidLemmas
 pub mod ListLemmas
 pub mod RestLemmas
 pub mod HomeLemmas
+pub mod LeavesLemmas
 pub mod FindingLemmas
 pub mod HeldLemmas

@@ -9,7 +9,7 @@ use Rattle.word_log.specs.Changes.{changed, lists, IsDistinct, MayCommit}
 use Rattle.word_log.specs.Replay.{entries, listed, wrong_entry, wrong_open, wrong_at, first_wrong, replayed}
 use Rattle.word_log.specs.Rest.{IsAtRest}
 use Rattle.line_words.specs.Words.{IsOnly}
-use Rattle.word_log.specs.Protocol.{IsOpen}
+use Rattle.word_log.specs.Protocol.{AwaitsReplay, IsOpen}
 use Rattle.word_log.proofs.ChangeLemmas.{listed_or, lists_not, lists-push}
 use Rattle.word_log.proofs.EntryLemmas.{length-entries}
 use Rattle.word_log.proofs.StepLemmas.{behind_gate-entries}
@@ -166,14 +166,14 @@ some_open a words valid some =
     ]
 
 -- a durable log that lists nothing is at rest, and one that lists something is open
-pub durable_empty : (a : LogArea) (m : Medium) (cs : List (ℕ × ℕ)) → Fits a m → ((p : ℕ) → IsOf a p → IsOnly (last_image m p) (m.history p)) → first_wrong a (last_image m) ≡ None → cs ≡ listed a (last_image m) → (length cs == 0) ≡ true → IsAtRest a m (replayed a (last_image m))
-durable_empty a m cs fits durable valid is none =
-    durable_closed a m fits durable (empty_closed a (last_image m) valid (ap length (sym is) ∙ eqb-true (length cs) 0 none))
+pub durable_empty : (a : LogArea) (m : Medium) (cs : List (ℕ × ℕ)) → Fits a m → AwaitsReplay a cs m → (length cs == 0) ≡ true → IsAtRest a m (replayed a (last_image m))
+durable_empty a m cs fits awaits none =
+    durable_closed a m fits awaits.durable (empty_closed a (last_image m) awaits.valid (ap length (sym awaits.listed) ∙ eqb-true (length cs) 0 none))
 
-pub durable_some : (a : LogArea) (m : Medium) (cs : List (ℕ × ℕ)) → Fits a m → ((p : ℕ) → IsOf a p → IsOnly (last_image m p) (m.history p)) → first_wrong a (last_image m) ≡ None → cs ≡ listed a (last_image m) → (length cs == 0) ≡ false → IsOpen a cs (last_image m) m
-durable_some a m cs fits durable valid is some =
-    let more : 0 < length (listed a (last_image m)) = subst (λ es. 0 < length es) is (at_least (length cs) some) in
-    subst (λ es. IsOpen a es (last_image m) m) (sym is) (durable_open a m fits durable (some_open a (last_image m) valid more))
+pub durable_some : (a : LogArea) (m : Medium) (cs : List (ℕ × ℕ)) → Fits a m → AwaitsReplay a cs m → (length cs == 0) ≡ false → IsOpen a cs (last_image m) m
+durable_some a m cs fits awaits some =
+    let more : 0 < length (listed a (last_image m)) = subst (λ es. 0 < length es) awaits.listed (at_least (length cs) some) in
+    subst (λ es. IsOpen a es (last_image m) m) (sym awaits.listed) (durable_open a m fits awaits.durable (some_open a (last_image m) awaits.valid more))
   where
     at_least : (n : ℕ) → (n == 0) ≡ false → 0 < n
     at_least n h = grind (arith, nat_tests)

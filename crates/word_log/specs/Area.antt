@@ -1,5 +1,6 @@
 -- Where a log and the words that it changes stand. A word's place is 8 * line + word.
-use Rattle.std.specs.Prelude.{◌≡◌, ◌⊎◌, ℕ, ◌+◌, ◌*◌, ◌/◌, ◌%◌, ◌<◌, ◌≤◌, Bool, false, ◌&&◌, nat_le, nat_lt, List, length, slice_index}
+use Rattle.std.specs.Prelude.{◌≡◌, ◌⊎◌, ℕ, ◌+◌, ◌*◌, ◌/◌, ◌%◌, ◌<◌, ◌≤◌, Bool, false, ◌&&◌, nat_le, nat_lt, List, length, slice_index, IsTrue}
+use Rattle.line_device.specs.Device.{Device}
 use Rattle.line_device.specs.Medium.{Medium}
 use Rattle.word_log.specs.declared.area.LogArea.{LogArea}
 
@@ -58,3 +59,16 @@ IsStrong a m = (p : ℕ) → IsOf a p → m.is_weak (p / 8) ≡ false
 -- no line of log or home is bad
 abbrev pub IsWhole : LogArea → Medium → Type 0
 IsWhole a m = (p : ℕ) → IsOf a p → m.is_bad (p / 8) ≡ false
+
+-- the log stands on a device that is on, and can be read there
+pub record IsReadable (a : LogArea) (d : Device) : Type 0 where
+  pub on : IsTrue d.panel.power
+  pub fits : Fits a d.medium
+  pub whole : IsWhole a d.medium
+
+-- and its words can be made durable there
+pub record IsUsable (a : LogArea) (d : Device) : Type 0 where
+  pub on : IsTrue d.panel.power
+  pub fits : Fits a d.medium
+  pub strong : IsStrong a d.medium
+  pub whole : IsWhole a d.medium

@@ -2,10 +2,12 @@ pub mod Area
 pub mod Changes
 pub mod Replay
 pub mod Rest
+pub mod Commits
 pub mod Held
 pub mod State
 pub mod Outcomes
 pub mod Mount
+pub mod Leaving
 pub mod Lists
 pub mod Examples
 pub mod Protocol

@@ -1,10 +1,10 @@
 -- What the steps of a commit leave.
-use Rattle.std.specs.Prelude.{◌≡◌, ℕ, ◌+◌, ◌*◌, ◌<◌, ◌≤◌, false, List, length}
+use Rattle.std.specs.Prelude.{◌≡◌, ℕ, ◌+◌, ◌*◌, ◌<◌, ◌≤◌, false, List, None, length}
 use Rattle.line_device.specs.Medium.{Medium, last_image}
 use Rattle.word_log.specs.declared.area.LogArea.{LogArea}
-use Rattle.word_log.specs.Area.{gate_place, count_place, entry_place, Fits, IsHome}
+use Rattle.word_log.specs.Area.{gate_place, count_place, entry_place, Fits, IsHome, IsOf}
 use Rattle.word_log.specs.Changes.{lists, MayCommit}
-use Rattle.word_log.specs.Replay.{entries}
+use Rattle.word_log.specs.Replay.{entries, first_wrong, listed}
 use Rattle.line_words.specs.Words.{IsOnly}
 
 -- a word of the log past its gate
@@ -28,3 +28,9 @@ pub record IsOpen (a : LogArea) (changes : List (ℕ × ℕ)) (words : ℕ → �
   pub written : IsWritten a changes m
   pub gate : IsOnly 1 (m.history (gate_place a))
   pub home : (p : ℕ) → IsHome a p → lists changes p ≡ false → IsOnly (words p) (m.history p)
+
+-- log and home are durable, the log is valid, and it lists these changes
+pub record AwaitsReplay (a : LogArea) (changes : List (ℕ × ℕ)) (m : Medium) : Type 0 where
+  pub durable : (p : ℕ) → IsOf a p → IsOnly (last_image m p) (m.history p)
+  pub valid : first_wrong a (last_image m) ≡ None
+  pub listed : changes ≡ listed a (last_image m)

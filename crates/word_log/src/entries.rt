@@ -1,8 +1,8 @@
 // Writing entries and count, which nothing reads while the gate is closed.
-ghost use Rattle.std.specs.Prelude.{◌≡◌, ◌+◌, ◌*◌, ◌<◌, ◌≤◌, length, IsTrue, OnOk};
+ghost use Rattle.std.specs.Prelude.{◌≡◌, ◌+◌, ◌*◌, ◌<◌, ◌≤◌, length, OnOk};
 ghost use Rattle.line_device.specs.Medium.{last_image};
 ghost use Rattle.line_device.specs.Panel.{Runs};
-ghost use Rattle.word_log.specs.Area.{Fits, IsStrong, IsWhole, entry_place};
+ghost use Rattle.word_log.specs.Area.{IsReadable, IsUsable, entry_place};
 ghost use Rattle.word_log.specs.Changes.{MayCommit};
 ghost use Rattle.word_log.specs.Replay.{entries};
 ghost use Rattle.line_words.specs.Words.{WritesBackOutside};
@@ -21,9 +21,7 @@ fn store_entry<L: Lines>(
     change: (u64, u64),
 ) -> Result<(), Interruption>
     requires room { k < area.cap }
-    requires fits { Fits area (L.state dev.old).medium }
-    requires whole { IsWhole area (L.state dev.old).medium }
-    requires on { IsTrue (L.state dev.old).panel.power }
+    requires readable { IsReadable area (L.state dev.old) }
     ensures outside { WritesBackOutside (λ p. (entry_place area k ≤ p) × (p < entry_place area (k + 1)))
         (L.state dev.old).medium (L.state dev.new).medium }
     ensures place { OnOk result (last_image (L.state dev.new).medium (entry_place area k) ≡ change.0) }
@@ -41,9 +39,7 @@ fn store_entries<L: Lines>(
     changes: &[(u64, u64)],
 ) -> Result<(), Interruption>
     requires room { length changes.now ≤ area.cap }
-    requires fits { Fits area (L.state dev.old).medium }
-    requires whole { IsWhole area (L.state dev.old).medium }
-    requires on { IsTrue (L.state dev.old).panel.power }
+    requires readable { IsReadable area (L.state dev.old) }
     ensures outside { WritesBackOutside (λ p. (entry_place area 0 ≤ p) × (p < entry_place area (length changes.now)))
         (L.state dev.old).medium (L.state dev.new).medium }
     ensures ok { OnOk result
@@ -64,10 +60,7 @@ pub fn write_entries<L: Lines>(
     changes: &[(u64, u64)],
 ) -> Result<(), Interruption>
     requires taken { MayCommit area changes.now }
-    requires fits { Fits area (L.state dev.old).medium }
-    requires strong { IsStrong area (L.state dev.old).medium }
-    requires whole { IsWhole area (L.state dev.old).medium }
-    requires on { IsTrue (L.state dev.old).panel.power }
+    requires usable { IsUsable area (L.state dev.old) }
     ensures outside { WritesBackOutside (IsBehindGate area) (L.state dev.old).medium (L.state dev.new).medium }
     ensures ok { OnOk result (IsRecorded area changes.now (L.state dev.new).medium) }
     ensures runs { Runs (3 * length changes.now + 2) (length changes.now + 1) (ended result)

@@ -3,12 +3,12 @@ ghost use Rattle.std.specs.Prelude.{◌≡◌, ◌+◌, ◌*◌, ◌/◌, ◌%�
 ghost use Rattle.line_device.specs.Medium.{WritesBack, last_image};
 ghost use Rattle.line_device.specs.Panel.{Runs};
 ghost use Rattle.line_words.specs.Told.{IsStop};
-ghost use Rattle.line_words.specs.Words.{WritesBackOutside};
-ghost use Rattle.word_log.specs.Area.{AreHomeWords, Fits, IsOf, IsStrong, IsWhole, gate_place};
-ghost use Rattle.word_log.specs.Mount.{LeavesWrong, LogFinds, says};
+ghost use Rattle.word_log.specs.Area.{AreHomeWords, Fits, IsReadable, IsStrong};
+ghost use Rattle.word_log.specs.Leaving.{LeavesLog};
+ghost use Rattle.word_log.specs.Mount.{LogFinds, says};
 ghost use Rattle.word_log.specs.Outcomes.{log_outcome};
 ghost use Rattle.word_log.specs.Replay.{replayed};
-ghost use Rattle.word_log.specs.Rest.{EachImage, IsAtRest, IsReached};
+ghost use Rattle.word_log.specs.Rest.{IsAtRest};
 
 use crate::{Log, LogArea, LogFault, mount};
 use line_device::Lines;
@@ -31,11 +31,7 @@ pub fn mount_words<L: Lines>(
     ensures rest { OnOk result (IsAtRest area (L.state dev.new).medium
         (replayed area (last_image (L.state dev.old).medium))) }
     ensures finds { LogFinds area (L.state dev.old).medium result }
-    ensures images { EachImage area (L.state dev.new).medium (IsReached area (L.state dev.old).medium) }
-    ensures refused { LeavesWrong area (L.state dev.old).medium (L.state dev.new).medium }
-    ensures closed { last_image (L.state dev.old).medium (gate_place area) ≡ 0
-        → WritesBack (L.state dev.old).medium (L.state dev.new).medium }
-    ensures outside { WritesBackOutside (IsOf area) (L.state dev.old).medium (L.state dev.new).medium }
+    ensures leaves { LeavesLog area (L.state dev.old).medium (L.state dev.new).medium }
     ensures runs { Runs (area.log.len + area.home.len / 8 + 4 * area.cap + 6 + (area.home.len + 7) / 8)
         (area.log.len + area.home.len / 8 + area.cap + 3) (log_outcome result)
         (L.state dev.old).panel (L.state dev.new).panel }
@@ -47,9 +43,7 @@ pub fn mount_words<L: Lines>(
 
 // The home words, as last stored.
 fn load_home<L: Lines>(alloc: Global, dev: &mut L, area: LogArea) -> Result<Words, LogFault>
-    requires on { IsTrue (L.state dev.old).panel.power }
-    requires fits { Fits area (L.state dev.old).medium }
-    requires whole { IsWhole area (L.state dev.old).medium }
+    requires readable { IsReadable area (L.state dev.old) }
     requires line { area.home.start % 8 ≡ 0 }
     ensures words { IfOk result (λ words. AreHomeWords area (last_image (L.state dev.old).medium) words.items) }
     ensures stop { IfErr result (IsStop says) }

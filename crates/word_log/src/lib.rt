@@ -7,16 +7,12 @@
 //   4. gate 0
 #![tactic(auto)]
 
-ghost use Rattle.std.specs.Prelude.{◌≡◌, ◌⊎◌, ◌+◌, ◌*◌, ℕ, length, true, IsTrue, OnOk};
+ghost use Rattle.std.specs.Prelude.{◌≡◌, ℕ, true, IsTrue};
 ghost use Rattle.std.specs.Result.{is_ok};
-ghost use Rattle.line_device.specs.Medium.{last_image};
-ghost use Rattle.line_device.specs.Panel.{Runs};
-ghost use Rattle.word_log.specs.Area.{Fits, IsStrong, IsWhole, IsOf};
-ghost use Rattle.word_log.specs.Changes.{changed, commit_calls, commit_persists, MayCommit};
-ghost use Rattle.word_log.specs.Replay.{Replays};
-ghost use Rattle.line_words.specs.Words.{WritesBackOutside};
-ghost use Rattle.word_log.specs.Rest.{IsAtRest, EachImage};
-ghost use Rattle.line_words.specs.Ending.{ended};
+ghost use Rattle.word_log.specs.Area.{IsUsable};
+ghost use Rattle.word_log.specs.Changes.{MayCommit};
+ghost use Rattle.word_log.specs.Commits.{Commits};
+ghost use Rattle.word_log.specs.Rest.{IsAtRest};
 
 mod area;
 mod entries;
@@ -79,20 +75,10 @@ impl Log {
         changes: &[(u64, u64)],
     ) -> Result<(), Interruption>
         requires settled { IsTrue self.old.settled }
-        requires on { IsTrue (L.state dev.old).panel.power }
-        requires fits { Fits self.old.area (L.state dev.old).medium }
-        requires strong { IsStrong self.old.area (L.state dev.old).medium }
-        requires whole { IsWhole self.old.area (L.state dev.old).medium }
+        requires usable { IsUsable self.old.area (L.state dev.old) }
         requires rest { (words : ℕ → ℕ) × IsAtRest self.old.area (L.state dev.old).medium words }
         requires changes { MayCommit self.old.area changes.now }
-        ensures ok { OnOk result ((words : ℕ → ℕ) → IsAtRest self.old.area (L.state dev.old).medium words
-            → IsAtRest self.old.area (L.state dev.new).medium (changed changes.now words)) }
-        ensures images { (words : ℕ → ℕ) → IsAtRest self.old.area (L.state dev.old).medium words
-            → EachImage self.old.area (L.state dev.new).medium (λ image.
-            Replays self.old.area image words ⊎ Replays self.old.area image (changed changes.now words)) }
-        ensures outside { WritesBackOutside (IsOf self.old.area) (L.state dev.old).medium (L.state dev.new).medium }
-        ensures runs { Runs (commit_calls (length changes.now)) (commit_persists (length changes.now)) (ended result)
-            (L.state dev.old).panel (L.state dev.new).panel }
+        ensures commits { Commits self.old.area (L.state dev.old) (L.state dev.new) result changes.now }
         ensures log { self.new ≡ record self.old { settled = is_ok result } }
     {
         self.settled = false;

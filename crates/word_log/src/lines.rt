@@ -1,8 +1,8 @@
 // The lines of log and home: whether one is bad, and making them durable.
-ghost use Rattle.std.specs.Prelude.{◌≡◌, ◌+◌, ◌/◌, ◌<◌, ◌≤◌, ℕ, true, false, IsTrue, MatchOption, OnOk};
+ghost use Rattle.std.specs.Prelude.{◌≡◌, ◌+◌, ◌/◌, ◌<◌, ◌≤◌, ℕ, true, false, MatchOption, OnOk};
 ghost use Rattle.line_device.specs.Medium.{WritesBack, last_image};
 ghost use Rattle.line_device.specs.Panel.{Runs};
-ghost use Rattle.word_log.specs.Area.{Fits, IsStrong, IsWhole, IsOf, IsLineOf};
+ghost use Rattle.word_log.specs.Area.{Fits, IsUsable, IsWhole, IsOf, IsLineOf};
 ghost use Rattle.line_words.specs.Words.{IsOnly};
 ghost use Rattle.line_words.specs.Ending.{ended};
 
@@ -39,10 +39,7 @@ pub fn bad_line<L: Lines>(dev: &L, area: LogArea) -> Option<LineNo>
 
 /// Makes log and home durable.
 pub fn make_durable<L: Lines>(dev: &mut L, area: LogArea) -> Result<(), Interruption>
-    requires fits { Fits area (L.state dev.old).medium }
-    requires strong { IsStrong area (L.state dev.old).medium }
-    requires whole { IsWhole area (L.state dev.old).medium }
-    requires on { IsTrue (L.state dev.old).panel.power }
+    requires usable { IsUsable area (L.state dev.old) }
     ensures lines { WritesBack (L.state dev.old).medium (L.state dev.new).medium }
     ensures ok { OnOk result ((p : ℕ) → IsOf area p
         → IsOnly (last_image (L.state dev.old).medium p) ((L.state dev.new).medium.history p)) }

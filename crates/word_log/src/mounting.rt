@@ -1,13 +1,14 @@
 // Mounting a log, and looking at it without a store.
-ghost use Rattle.std.specs.Prelude.{◌≡◌, ◌+◌, ◌*◌, ◌/◌, ℕ, None, true, IsTrue, IfOk, IfErr, OnOk};
+ghost use Rattle.std.specs.Prelude.{◌≡◌, ◌+◌, ◌*◌, ◌/◌, true, IsTrue, IfOk, IfErr, OnOk};
 ghost use Rattle.line_device.specs.Medium.{WritesBack, last_image};
 ghost use Rattle.line_device.specs.Panel.{Runs};
-ghost use Rattle.word_log.specs.Area.{Fits, IsStrong, IsWhole, IsOf, gate_place};
-ghost use Rattle.word_log.specs.Replay.{listed, replayed, first_wrong, Replays};
+ghost use Rattle.word_log.specs.Area.{Fits, IsStrong, IsUsable, IsOf, gate_place};
+ghost use Rattle.word_log.specs.Replay.{replayed, Replays};
 ghost use Rattle.line_words.specs.Words.{WritesBackOutside};
-ghost use Rattle.word_log.specs.Rest.{IsAtRest, IsReached, EachImage};
-ghost use Rattle.line_words.specs.Words.{IsOnly};
-ghost use Rattle.word_log.specs.Mount.{IsRefusal, LeavesWrong, LogFinds};
+ghost use Rattle.word_log.specs.Rest.{IsAtRest, EachImage};
+ghost use Rattle.word_log.specs.Leaving.{LeavesLog};
+ghost use Rattle.word_log.specs.Mount.{IsRefusal, LogFinds};
+ghost use Rattle.word_log.specs.Protocol.{AwaitsReplay};
 ghost use Rattle.word_log.specs.Outcomes.{log_outcome};
 ghost use Rattle.line_words.specs.Ending.{ended};
 
@@ -21,14 +22,8 @@ use std::alloc::Global;
 
 /// Replays these changes, those of a durable log, if there are any, and closes it.
 fn redo<L: Lines>(dev: &mut L, area: LogArea, changes: &[(u64, u64)]) -> Result<(), Interruption>
-    requires on { IsTrue (L.state dev.old).panel.power }
-    requires fits { Fits area (L.state dev.old).medium }
-    requires strong { IsStrong area (L.state dev.old).medium }
-    requires whole { IsWhole area (L.state dev.old).medium }
-    requires durable { (p : ℕ) → IsOf area p
-        → IsOnly (last_image (L.state dev.old).medium p) ((L.state dev.old).medium.history p) }
-    requires valid { first_wrong area (last_image (L.state dev.old).medium) ≡ None }
-    requires listed { changes.now ≡ listed area (last_image (L.state dev.old).medium) }
+    requires usable { IsUsable area (L.state dev.old) }
+    requires awaits { AwaitsReplay area changes.now (L.state dev.old).medium }
     ensures ok { OnOk result (IsAtRest area (L.state dev.new).medium
         (replayed area (last_image (L.state dev.old).medium))) }
     ensures images { EachImage area (L.state dev.new).medium (λ image.
@@ -54,13 +49,9 @@ pub fn mount<L: Lines>(alloc: Global, dev: &mut L, area: LogArea) -> Result<Log,
     ensures ok { OnOk result (IsAtRest area (L.state dev.new).medium
         (replayed area (last_image (L.state dev.old).medium))) }
     ensures finds { LogFinds area (L.state dev.old).medium result }
-    ensures images { EachImage area (L.state dev.new).medium (IsReached area (L.state dev.old).medium) }
     ensures refused { IfErr result (λ fault. IsRefusal fault
         → WritesBack (L.state dev.old).medium (L.state dev.new).medium) }
-    ensures wrong { LeavesWrong area (L.state dev.old).medium (L.state dev.new).medium }
-    ensures closed { last_image (L.state dev.old).medium (gate_place area) ≡ 0
-        → WritesBack (L.state dev.old).medium (L.state dev.new).medium }
-    ensures outside { WritesBackOutside (IsOf area) (L.state dev.old).medium (L.state dev.new).medium }
+    ensures leaves { LeavesLog area (L.state dev.old).medium (L.state dev.new).medium }
     ensures runs { Runs (area.log.len + area.home.len / 8 + 4 * area.cap + 6)
         (area.log.len + area.home.len / 8 + area.cap + 3) (log_outcome result)
         (L.state dev.old).panel (L.state dev.new).panel }

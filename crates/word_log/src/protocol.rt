@@ -1,9 +1,10 @@
 // The gate, and the order of a commit.
-ghost use Rattle.std.specs.Prelude.{◌≡◌, ◌⊎◌, ◌+◌, ◌*◌, ℕ, length, IsTrue, OnOk};
+ghost use Rattle.std.specs.Prelude.{◌≡◌, ◌⊎◌, ◌+◌, ◌*◌, ℕ, length, OnOk};
 ghost use Rattle.line_device.specs.History.{IsIn};
 ghost use Rattle.line_device.specs.Panel.{Runs};
-ghost use Rattle.word_log.specs.Area.{Fits, IsStrong, IsWhole, IsOf, gate_place};
-ghost use Rattle.word_log.specs.Changes.{changed, commit_calls, commit_persists, MayCommit};
+ghost use Rattle.word_log.specs.Area.{IsUsable, IsOf, gate_place};
+ghost use Rattle.word_log.specs.Changes.{changed, MayCommit};
+ghost use Rattle.word_log.specs.Commits.{Commits};
 ghost use Rattle.word_log.specs.Replay.{Replays};
 ghost use Rattle.line_words.specs.Words.{WritesBackOutside};
 ghost use Rattle.word_log.specs.Rest.{IsAtRest, EachImage};
@@ -25,10 +26,7 @@ pub const OPEN: u64 = 1;
 
 /// Sets the gate, and makes it durable.
 pub fn set_gate<L: Lines>(dev: &mut L, area: LogArea, gate: u64) -> Result<(), Interruption>
-    requires fits { Fits area (L.state dev.old).medium }
-    requires strong { IsStrong area (L.state dev.old).medium }
-    requires whole { IsWhole area (L.state dev.old).medium }
-    requires on { IsTrue (L.state dev.old).panel.power }
+    requires usable { IsUsable area (L.state dev.old) }
     ensures outside { WritesBackOutside (λ p. p ≡ gate_place area) (L.state dev.old).medium (L.state dev.new).medium }
     ensures either { (x : ℕ) → IsIn x ((L.state dev.new).medium.history (gate_place area))
         → IsIn x ((L.state dev.old).medium.history (gate_place area)) ⊎ (x ≡ gate) }
@@ -45,9 +43,7 @@ pub fn finish<L: Lines>(
     area: LogArea,
     changes: &[(u64, u64)],
 ) -> Result<(), Interruption>
-    requires on { IsTrue (L.state dev.old).panel.power }
-    requires strong { IsStrong area (L.state dev.old).medium }
-    requires whole { IsWhole area (L.state dev.old).medium }
+    requires usable { IsUsable area (L.state dev.old) }
     requires written { IsWritten area changes.now (L.state dev.old).medium }
     ensures ok { OnOk result ((words : ℕ → ℕ) → IsOpen area changes.now words (L.state dev.old).medium
         → IsAtRest area (L.state dev.new).medium (changed changes.now words)) }
@@ -67,20 +63,10 @@ pub fn commit_at<L: Lines>(
     area: LogArea,
     changes: &[(u64, u64)],
 ) -> Result<(), Interruption>
-    requires on { IsTrue (L.state dev.old).panel.power }
-    requires fits { Fits area (L.state dev.old).medium }
-    requires strong { IsStrong area (L.state dev.old).medium }
-    requires whole { IsWhole area (L.state dev.old).medium }
+    requires usable { IsUsable area (L.state dev.old) }
     requires rest { (words : ℕ → ℕ) × IsAtRest area (L.state dev.old).medium words }
     requires taken { MayCommit area changes.now }
-    ensures ok { OnOk result ((words : ℕ → ℕ) → IsAtRest area (L.state dev.old).medium words
-        → IsAtRest area (L.state dev.new).medium (changed changes.now words)) }
-    ensures images { (words : ℕ → ℕ) → IsAtRest area (L.state dev.old).medium words
-        → EachImage area (L.state dev.new).medium (λ image.
-        Replays area image words ⊎ Replays area image (changed changes.now words)) }
-    ensures outside { WritesBackOutside (IsOf area) (L.state dev.old).medium (L.state dev.new).medium }
-    ensures runs { Runs (commit_calls (length changes.now)) (commit_persists (length changes.now)) (ended result)
-        (L.state dev.old).panel (L.state dev.new).panel }
+    ensures commits { Commits area (L.state dev.old) (L.state dev.new) result changes.now }
 {
     write_entries(dev, area, changes)?;
     set_gate(dev, area, OPEN)?;

@@ -2,7 +2,7 @@
 ghost use Rattle.std.specs.Prelude.{◌≡◌, ◌+◌, ◌*◌, ◌&&◌, ◌<◌, ◌≤◌, ◌^◌, [], None, not, length, IsTrue, IfOk};
 ghost use Rattle.line_device.specs.Medium.{WritesBack, last_image};
 ghost use Rattle.line_device.specs.Panel.{Runs};
-ghost use Rattle.word_log.specs.Area.{Fits, IsWhole, is_home, gate_place, count_place, entry_place};
+ghost use Rattle.word_log.specs.Area.{Fits, IsReadable, is_home, gate_place, count_place, entry_place};
 ghost use Rattle.word_log.specs.Changes.{lists};
 ghost use Rattle.word_log.specs.Replay.{entries, listed, wrong_entry, wrong_at, first_wrong};
 ghost use Rattle.word_log.specs.Mount.{LogFinds, TellsPlace};
@@ -22,9 +22,7 @@ pub type Changes = Buffer<(u64, u64)>;
 /// Entry k.
 fn read_entry<L: Lines>(dev: &mut L, area: LogArea, k: u64) -> Result<(u64, u64), Interruption>
     requires room { k < area.cap }
-    requires fits { Fits area (L.state dev.old).medium }
-    requires whole { IsWhole area (L.state dev.old).medium }
-    requires on { IsTrue (L.state dev.old).panel.power }
+    requires readable { IsReadable area (L.state dev.old) }
     ensures entry { IfOk result (λ entry. entry ≡ (
       last_image (L.state dev.old).medium (entry_place area k),
       last_image (L.state dev.old).medium (entry_place area k + 1),
@@ -45,9 +43,7 @@ fn read_entries<L: Lines>(
     count: u64,
 ) -> Result<Changes, LogFault>
     requires room { count ≤ area.cap }
-    requires fits { Fits area (L.state dev.old).medium }
-    requires whole { IsWhole area (L.state dev.old).medium }
-    requires on { IsTrue (L.state dev.old).panel.power }
+    requires readable { IsReadable area (L.state dev.old) }
     ensures stops { TellsPlace None result }
     ensures entries { IfOk result (λ changes. changes.items
         ≡ entries (last_image (L.state dev.old).medium) (entry_place area 0) count) }
@@ -91,9 +87,7 @@ fn wrong_place(area: LogArea, entries: &[(u64, u64)]) -> Option<u64>
 
 /// The changes of a log whose gate is open.
 fn read_open<L: Lines>(alloc: Global, dev: &mut L, area: LogArea) -> Result<Changes, LogFault>
-    requires fits { Fits area (L.state dev.old).medium }
-    requires whole { IsWhole area (L.state dev.old).medium }
-    requires on { IsTrue (L.state dev.old).panel.power }
+    requires readable { IsReadable area (L.state dev.old) }
     ensures tells { TellsPlace (wrong_at 1 area (last_image (L.state dev.old).medium)) result }
     ensures changes { IfOk result (λ changes. changes.items ≡ entries (last_image (L.state dev.old).medium)
         (entry_place area 0) (last_image (L.state dev.old).medium (count_place area))) }
@@ -113,9 +107,7 @@ fn read_open<L: Lines>(alloc: Global, dev: &mut L, area: LogArea) -> Result<Chan
 
 /// The changes of a log whose lines are good.
 fn read_whole<L: Lines>(alloc: Global, dev: &mut L, area: LogArea) -> Result<Changes, LogFault>
-    requires fits { Fits area (L.state dev.old).medium }
-    requires whole { IsWhole area (L.state dev.old).medium }
-    requires on { IsTrue (L.state dev.old).panel.power }
+    requires readable { IsReadable area (L.state dev.old) }
     ensures tells { TellsPlace (first_wrong area (last_image (L.state dev.old).medium)) result }
     ensures changes { IfOk result (λ changes. changes.items ≡ listed area (last_image (L.state dev.old).medium)) }
     ensures lines { WritesBack (L.state dev.old).medium (L.state dev.new).medium }

@@ -14,7 +14,7 @@ loop-k-init g c = record { all = ap length (c.in_ok-reserve.ensures.items ∙ c.
 pub load_words-requires-clause-healthy : goal.load_words-requires-clause-healthy
 load_words-requires-clause-healthy g c =
     is_healthy-write_back (g.L.Lines.state c.args.dev.now).medium (g.L.Lines.state c.loop-k.dev).medium _ c.loop-k.invariant.lines
-    (home_line c.args.area (g.L.Lines.state c.args.dev.now).medium c.loop-k.k c.requires.fits c.requires.whole c.requires.line (omega (arith, c.loop-k-test.true, c.div_ceil-k-end.ensures)))
+    (home_line c.args.area (g.L.Lines.state c.args.dev.now).medium c.loop-k.k c.requires.readable.fits c.requires.readable.whole c.requires.line (omega (arith, c.loop-k-test.true, c.div_ceil-k-end.ensures)))
 
 pub returns-in_err-eight-clause-lines : goal.returns-in_err-eight-clause-lines
 returns-in_err-eight-clause-lines g c = write_back-trans _ _ _ c.loop-k.invariant.lines c.in_err-eight.ensures.lines

@@ -9,15 +9,15 @@ use Rattle.word_log.proofs.StepLemmas.{on_ok-then}
 use Rattle.word_log.proofs.lines.make_durable.Goals as goal
 
 pub persist_lines-requires-clause-good_line : goal.persist_lines-requires-clause-good_line
-persist_lines-requires-clause-good_line g c = λ line from to. log_good_line c.args.area _ line c.requires.fits c.requires.strong c.requires.whole from to
+persist_lines-requires-clause-good_line g c = λ line from to. log_good_line c.args.area _ line c.requires.usable.fits c.requires.usable.strong c.requires.usable.whole from to
 
 pub persist_lines-requires-2-clause-end : goal.persist_lines-requires-2-clause-end
-persist_lines-requires-2-clause-end g c = omega (arith, c.home_lines-home.ensures.end, c.requires.fits.home, c.in_ok-persist_lines.ensures.lines.count)
+persist_lines-requires-2-clause-end g c = omega (arith, c.home_lines-home.ensures.end, c.requires.usable.fits.home, c.in_ok-persist_lines.ensures.lines.count)
 
 pub persist_lines-requires-2-clause-good_line : goal.persist_lines-requires-2-clause-good_line
 persist_lines-requires-2-clause-good_line g c = λ line from to.
     let at = c.home_lines-home.ensures.only line from to in
-    let good_line = home_good_line c.args.area _ at.0 c.requires.fits c.requires.strong c.requires.whole at.1 in
+    let good_line = home_good_line c.args.area _ at.0 c.requires.usable.fits c.requires.usable.strong c.requires.usable.whole at.1 in
     subst (IsGoodLine (g.L.Lines.state c.persist_lines.new.dev).medium) at.2 (good_line-write_back _ _ _ good_line c.in_ok-persist_lines.ensures.lines)
 
 pub returns-clause-lines : goal.returns-clause-lines

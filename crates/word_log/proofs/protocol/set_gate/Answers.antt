@@ -11,16 +11,16 @@ returns-in_err-store_word-clause-either g c = λ x at. inl (is_in-word_write_bac
 
 pub persist_line-requires-clause-good_line : goal.persist_line-requires-clause-good_line
 persist_line-requires-clause-good_line g c =
-    gate_line c.args.area _ _ _ c.requires.fits c.requires.strong c.requires.whole (outside-stored _ _ _ _ c.in_ok-store_word.ensures.lines)
+    gate_line c.args.area _ _ _ c.requires.usable.fits c.requires.usable.strong c.requires.usable.whole (outside-stored _ _ _ _ c.in_ok-store_word.ensures.lines)
 
 pub returns-clause-outside : goal.returns-clause-outside
 returns-clause-outside g c =
-    (sets_gate c.persist_line.result c.args.area c.args.gate _ _ _ _ c.requires.fits c.requires.strong c.requires.whole c.gate_place.ensures c.in_ok-store_word.ensures.lines c.persist_line.ensures.lines).outside
+    (sets_gate c.persist_line.result c.args.area c.args.gate _ _ _ _ c.requires.usable.fits c.requires.usable.strong c.requires.usable.whole c.gate_place.ensures c.in_ok-store_word.ensures.lines c.persist_line.ensures.lines).outside
 
 pub returns-clause-either : goal.returns-clause-either
 returns-clause-either g c =
-    (sets_gate c.persist_line.result c.args.area c.args.gate _ _ _ _ c.requires.fits c.requires.strong c.requires.whole c.gate_place.ensures c.in_ok-store_word.ensures.lines c.persist_line.ensures.lines).either
+    (sets_gate c.persist_line.result c.args.area c.args.gate _ _ _ _ c.requires.usable.fits c.requires.usable.strong c.requires.usable.whole c.gate_place.ensures c.in_ok-store_word.ensures.lines c.persist_line.ensures.lines).either
 
 pub returns-clause-ok : goal.returns-clause-ok
 returns-clause-ok g c =
-    (sets_gate c.persist_line.result c.args.area c.args.gate _ _ _ _ c.requires.fits c.requires.strong c.requires.whole c.gate_place.ensures c.in_ok-store_word.ensures.lines c.persist_line.ensures.lines).ok
+    (sets_gate c.persist_line.result c.args.area c.args.gate _ _ _ _ c.requires.usable.fits c.requires.usable.strong c.requires.usable.whole c.gate_place.ensures c.in_ok-store_word.ensures.lines c.persist_line.ensures.lines).ok
