@@ -1,11 +1,12 @@
 -- Where the files' log and tables lie.
-use Rattle.std.proofs.Common.{◌≡◌, inl, inr, ℕ, ◌+◌, ◌/◌, ◌<◌, refl, arith}
+use Rattle.std.proofs.Common.{◌≡◌, inl, inr, ℕ, ◌+◌, ◌/◌, ◌<◌, IsTrue, refl, arith}
+use Rattle.line_device.specs.Device.{Device}
 use Rattle.line_device.specs.Medium.{Medium}
 use Rattle.word_tables.specs.declared.geometry.Geometry.{Geometry}
 use Rattle.word_tables.specs.Bounds.{IsValid}
 use Rattle.word_tables.specs.Layout.{first_line, size, total_lines, meta_lines, inodes, page_tables}
 use Rattle.word_tables.specs.Words.{place, of_inode, of_file_page}
-use Rattle.word_log.specs.Area.{IsOf, IsHome, IsShaped, IsWhole, IsStrong, Fits}
+use Rattle.word_log.specs.Area.{IsOf, IsHome, IsShaped, IsWhole, IsStrong, IsUsable, Fits}
 use Rattle.nvm_model.specs.Lines.{AreGood, AreStrong}
 use Rattle.file_journal.specs.Area.{file_area}
 
@@ -34,6 +35,9 @@ module _ (geo : Geometry) (valid : IsValid geo) where
 
   pub area_strong : (m : Medium) → AreStrong m (meta_lines geo) → IsStrong (file_area geo) m
   area_strong m strong p of = strong (p / 8) (area_in_metadata p of)
+
+  pub area_usable : (d : Device) → d.medium.count ≡ total_lines geo → AreStrong d.medium (meta_lines geo) → AreGood d.medium (meta_lines geo) → IsTrue d.panel.power → IsUsable (file_area geo) d
+  area_usable d count strong good on = record { on = on; fits = area_fits d.medium count; strong = area_strong d.medium strong; whole = area_whole d.medium good }
 
 -- the words of an inode and those of pages are home words
 pub inode_is_home : (geo : Geometry) (inode k : ℕ) → inode < 64 → k < 8 → IsHome (file_area geo) (place geo (of_inode inode 0) + k)

@@ -10,15 +10,11 @@ use Rattle.line_words.specs.declared.interruption.Interruption.TheVariants.{Fail
 use Rattle.line_words.specs.Ending.{stop_outcome}
 use Rattle.line_words.specs.Told.{Answers, OnWorked, is_done, told_outcome}
 use Rattle.line_words.specs.Told.Told.{Stops}
-use Rattle.line_words.specs.Words.{WritesBackOutside}
 use Rattle.line_words.proofs.FrameLemmas.{outside-refl}
 use Rattle.line_words.proofs.ToldLemmas.{refused_went, stop_worked}
-use Rattle.word_log.specs.Area.{IsOf}
 use Rattle.word_log.specs.Changes.{commit_calls, commit_persists}
 use Rattle.file_journal.specs.declared.fault.JournalFault.{JournalFault}
-use Rattle.file_journal.specs.Area.{file_area}
 use Rattle.file_journal.specs.Calls.{ChangesFiles, IsReady, Works}
-use Rattle.file_journal.specs.Images.{EachReadsTables, IsEither}
 use Rattle.file_journal.specs.Object.{JournalState}
 use Rattle.file_journal.specs.Refusals.{JournalRefusal, journal_says}
 use Rattle.file_journal.specs.Tables.{Tables}
@@ -41,21 +37,6 @@ refused_changes state s dev (Err fault) why tables named words answers refused r
       units = tt;
       runs = subst (λ o. Runs (commit_calls words) (commit_persists words) o panel panel) (sym is) (runs_within 0 0 _ _ went panel panel (runs-refl panel) (omega arith) (omega arith));
     }
-
--- Work that was stopped leaves the journal unsettled.
-pub stopped_works : {D T : Type 0} (state : D → Device) (s t : JournalState) (before after : D) (result : Result T Interruption) (stop : Interruption) (tables : Tables) (named few words : ℕ) → few ≤ words → IsErrAnd result (λ e. e ≡ stop)
-    → EachReadsTables s.geo (state after).medium (IsEither s.tables tables) → WritesBackOutside (IsOf (file_area s.geo)) (state before).medium (state after).medium → t.geo ≡ s.geo → t.settled ≡ false
-    → Runs (commit_calls few) (commit_persists few) (stop_outcome stop) (state before).panel (state after).panel → Works state s t before after result tables named words
-stopped_works state s t before after (Ok x) stop tables named few words low is images outside geo settled runs = absurd is
-stopped_works state s t before after (Err e) stop tables named few words low is images outside geo settled runs = record {
-  ok = tt;
-  images = images;
-  outside = outside;
-  serves = tt;
-  object = (geo, settled);
-  units = tt;
-  runs = subst (λ o. Runs (commit_calls words) (commit_persists words) o (state before).panel (state after).panel) (ap stop_outcome (sym is)) (runs_within _ _ _ _ _ _ _ runs (omega arith) (omega arith));
-}
 
 -- One that nothing refuses ends as its work ended, which may have another name for the tables, and commit fewer words.
 module _ {D : Type 0} (state : D → Device) (s t : JournalState) (before after : D) (why : Option JournalRefusal) (none : why ≡ None) (tables work : Tables) (is : tables ≡ work) (named few words : ℕ) (low : few ≤ words) where
