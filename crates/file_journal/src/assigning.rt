@@ -1,9 +1,8 @@
 // Changes of what is kept in memory.
-ghost use Rattle.std.specs.Prelude.{◌≡◌, ◌+◌, ◌<◌, ◌-◌, ℕ, slice_set, length};
+ghost use Rattle.std.specs.Prelude.{◌≡◌, ◌+◌, ◌<◌, ℕ, slice_set, length};
 ghost use Rattle.free_pool.specs.Units.{IsTaken};
 ghost use Rattle.inode_table.specs.Slots as names;
 ghost use Rattle.page_table.specs.Pages as units;
-ghost use Rattle.page_table.specs.Pages.{used_pages};
 ghost use Rattle.file_journal.specs.Calls.{CanSwitch, MaySet};
 ghost use Rattle.file_journal.specs.Changes.{named_units, switched_pages};
 ghost use Rattle.file_journal.specs.Tables.{AreTaken, IsVacant, known_units};

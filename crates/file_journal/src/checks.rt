@@ -1,5 +1,5 @@
 // When calls are refused. None of this makes a counted call.
-ghost use Rattle.std.specs.Prelude.{◌≡◌, ◌≤◌, ◌<◌, IfOk, IsNone, None, OnOk, Some, ℕ};
+ghost use Rattle.std.specs.Prelude.{◌≡◌, ◌≤◌, ◌<◌, IfOk, None, OnOk, Some, ℕ};
 ghost use Rattle.line_words.specs.Told.{Checks};
 ghost use Rattle.nvm_model.specs.Lines.{AreGood};
 ghost use Rattle.word_tables.specs.Bounds.{IsValid};

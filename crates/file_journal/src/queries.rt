@@ -1,5 +1,5 @@
 // What is known of files without the device.
-ghost use Rattle.std.specs.Prelude.{◌≡◌, ◌↔◌, ◌<◌, ℕ, IfSome, IsNone, IsTrue, None, Some, slice_index_or};
+ghost use Rattle.std.specs.Prelude.{◌≡◌, ◌↔◌, ◌<◌, ℕ, IfSome, IsNone, None, Some, slice_index_or};
 ghost use Rattle.inode_table.specs.Slots.{IsNamed, inode_of, pages_at};
 ghost use Rattle.page_table.specs.Pages.{used_pages};
 ghost use Rattle.page_table.specs.Runs.{IsRun, run_of};

@@ -1,5 +1,5 @@
 // Units for pages to come, and pages that are switched to them.
-ghost use Rattle.std.specs.Prelude.{◌≡◌, ◌+◌, ◌↔◌, ◌<◌, ◌≤◌, ◌⊎◌, ℕ, Bool, IfSome, IsNone, MatchOption, None, OnOk, Option, false, length, slice_index_or, slice_set, true};
+ghost use Rattle.std.specs.Prelude.{◌≡◌, ◌+◌, ◌↔◌, ◌<◌, ◌≤◌, IfSome, IsNone, MatchOption, OnOk, Option, false, length, slice_set, true};
 ghost use Rattle.free_pool.specs.Units.{IsFree, IsTaken, free_count};
 ghost use Rattle.inode_table.specs.Slots.{pages_at};
 ghost use Rattle.line_device.specs.Medium.{Medium};
