@@ -10,6 +10,7 @@ pub mod SwitchedLemmas
 pub mod FilledLemmas
 mod FillLemmas
 mod StoreLemmas
+pub mod CallLemmas
 mod StretchLemmas
 pub mod RenewLemmas
 mod LentLemmas

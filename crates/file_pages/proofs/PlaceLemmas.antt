@@ -12,13 +12,14 @@ use Rattle.nvm_model.specs.Page.{Page, PagesStand, presence_of}
 use Rattle.nvm_model.proofs.NumberedLemmas.{length-list_from, slice_get-list_from}
 use Rattle.page_lines.specs.Placed.{AreApart}
 use Rattle.page_lines.proofs.StandingLemmas.{Located}
+use Rattle.file_journal.specs.Object.{JournalState}
 use Rattle.file_journal.specs.Standing.{line_on}
 use Rattle.file_journal.specs.Tables.{AreTables, Tables, unit_at}
 use Rattle.file_journal.proofs.FileLineLemmas.{page_line_within}
 use Rattle.file_journal.proofs.ReplaceLemmas.{pages_at_most}
 use Rattle.file_journal.proofs.StandingLemmas.{unit_line_in}
 use Rattle.file_pages.specs.Fresh.{AreOwn, switch_units}
-use Rattle.file_pages.specs.Object.{unit_place, units_of}
+use Rattle.file_pages.specs.Object.{PlacesState, unit_place, units_of}
 
 -- at which line a line lies whose page is there
 abbrev pub line_at : Geometry → List (Option ℕ) → ℕ → ℕ
@@ -127,3 +128,9 @@ module _ (size : ℕ) (t : Tables) (are : AreTables size t) (inode : ℕ) (low :
         let same = are.table.apart (256 * inode + k) (256 * inode + j) u (unit_on k u one).2 (unit_on j u two).2 in
         omega (arith, same);
   }
+
+-- lines of a file at these places are apart
+pub file_apart : (s : JournalState) (inode count : ℕ) (l : PlacesState) → l ≡ record { geo = s.geo; units = units_of s.tables inode } → AreTables s.geo.fpages s.tables → inode < 64 → count ≡ total_lines s.geo
+    → AreApart (unit_place l.geo l.units) count
+file_apart s inode count l lies are low all =
+    subst (λ (l : PlacesState). AreApart (unit_place l.geo l.units) count) (sym lies) (places_apart s.geo (units_of s.tables inode) (units_own s.geo.fpages s.tables are inode low) count all)

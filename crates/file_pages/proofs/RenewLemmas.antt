@@ -1,5 +1,5 @@
 -- A unit that no page has, with lines written anew.
-use Rattle.std.proofs.Common.{◌≡◌, ℕ, ◌+◌, ◌/◌, ◌%◌, ◌<◌, ◌≤◌, List, Some, None, slice_index_or, refl, sym, subst, arith}
+use Rattle.std.proofs.Common.{◌≡◌, ℕ, ◌+◌, ◌/◌, ◌%◌, ◌<◌, ◌≤◌, Some, None, slice_index_or, refl, sym, subst, arith}
 use Rattle.std.specs.List.{Contains}
 use Rattle.line_device.specs.Medium.{Medium}
 use Rattle.line_words.specs.Words.{WritesBackBeside}
@@ -7,17 +7,15 @@ use Rattle.word_tables.specs.declared.geometry.Geometry.{Geometry}
 use Rattle.word_tables.specs.Bounds.{IsValid}
 use Rattle.word_tables.specs.Layout.{file_line, file_pages, HasLine}
 use Rattle.page_table.specs.Pages.{IsOn}
-use Rattle.nvm_model.specs.Storage.{File}
 use Rattle.page_lines.specs.Turns.{WritesBackOthers}
 use Rattle.page_lines.proofs.OthersLemmas.{others-beside, others-wider}
-use Rattle.file_journal.specs.Area.{IsOfFiles}
 use Rattle.file_journal.specs.Files.{UnitFile, files_of}
 use Rattle.file_journal.specs.Object.{JournalServes, JournalState}
-use Rattle.file_journal.specs.Standing.{EachReadsFiles, FilesStand}
 use Rattle.file_journal.specs.Tables.{AreTables, IsVacant}
 use Rattle.file_journal.proofs.StandingLemmas.{entry_of_unit, unit_line_in}
+use Rattle.file_pages.specs.Calls.{AreAsBefore}
 use Rattle.file_pages.specs.Fresh.{IsOfUnit}
-use Rattle.file_pages.specs.Object.{KeepsMarks}
+use Rattle.file_pages.specs.Work.{FilesAreLeft}
 use Rattle.file_pages.proofs.ListedLemmas.{files-beside}
 use Rattle.file_pages.proofs.PlaceLemmas.{unit_get}
 use Rattle.file_pages.proofs.WorkLemmas.{lines-marks, lines-outside, lines-serve, reads-left}
@@ -46,20 +44,18 @@ module _ {s : JournalState} {old new : Medium} {unit : ℕ} (is : IsRenewed s ol
       let entry = entry_of_unit s.geo.fpages s.tables y are has k u (unit_get y.units k u got) in
       vacant entry.0 (subst (λ v. IsOn s.tables.pages entry.0 v) (sym same) entry.1)
 
-  pub renewed-outside : WritesBackOthers (IsOfFiles s.geo) old new
-  renewed-outside = lines-outside s.geo old new (IsOfUnit (file_line s.geo unit)) in_pages beside
+  pub renewed-before : AreAsBefore s s old new
+  renewed-before = record {
+    geo = refl;
+    tables = refl;
+    files = λ files stand. files-beside s.geo s.tables old new (IsOfUnit (file_line s.geo unit)) beside apart files stand;
+    outside = lines-outside s.geo old new (IsOfUnit (file_line s.geo unit)) in_pages beside;
+    metadata = lines-marks s.geo old new (IsOfUnit (file_line s.geo unit)) in_pages beside;
+    serves = lines-serve s old new (IsOfUnit (file_line s.geo unit)) valid in_pages beside serves;
+  }
 
-  pub renewed-marks : KeepsMarks s.geo old new
-  renewed-marks = lines-marks s.geo old new (IsOfUnit (file_line s.geo unit)) in_pages beside
-
-  pub renewed-serves : JournalServes s new
-  renewed-serves = lines-serve s old new (IsOfUnit (file_line s.geo unit)) valid in_pages beside serves
-
-  pub renewed-files : (files : List File) → FilesStand s.geo old s.tables files → FilesStand s.geo new s.tables files
-  renewed-files files stand = files-beside s.geo s.tables old new (IsOfUnit (file_line s.geo unit)) beside apart files stand
-
-  pub renewed-images : (files : List File) → FilesStand s.geo old s.tables files → EachReadsFiles s.geo new (λ left. left ≡ files)
-  renewed-images files stand = reads-left s new files (λ left. left ≡ files) are renewed-serves (renewed-files files stand) refl
+  pub renewed-images : FilesAreLeft s old new
+  renewed-images files stand = reads-left s new files (λ left. left ≡ files) are renewed-before.serves (renewed-before.files files stand) refl
 
 -- the lines that were written anew are the unit's
 pub of_unit : (geo : Geometry) (unit first len : ℕ) (old new : Medium) → first ≡ file_line geo unit → len ≡ 4096 → WritesBackBeside (λ n. (first ≤ n) × (n < first + len / 64)) old new

@@ -1,6 +1,8 @@
 -- Work on lines of files' pages: the journal goes on serving, and each image reads as the files that are left.
-use Rattle.std.proofs.Common.{Ok, Err, IsErrAnd, ap, ◌≡◌, inr, ℕ, ◌/◌, ◌<◌, Some, Result, OnErr, OnOk, List, refl, sym, subst, ◌∙◌, arith}
+use Rattle.std.proofs.Common.{Ok, Err, IsErrAnd, ap, ◌≡◌, inr, ℕ, ◌/◌, ◌<◌, Option, Some, Result, OnErr, OnOk, List, refl, sym, subst, ◌∙◌, arith}
+use Rattle.line_device.specs.Device.{Device}
 use Rattle.line_device.specs.Medium.{Medium}
+use Rattle.line_device.specs.Panel.{Runs}
 use Rattle.line_device.proofs.HistoryLemmas.{is_in-word_write_back}
 use Rattle.line_words.specs.declared.interruption.Interruption.{Interruption}
 use Rattle.line_words.specs.Ending.{ended, stop_outcome}
@@ -9,7 +11,7 @@ use Rattle.word_tables.specs.Bounds.{IsValid}
 use Rattle.word_tables.specs.Layout.{file_pages, HasLine}
 use Rattle.nvm_model.specs.Cell.{Cell, persist_cell, put_cell}
 use Rattle.nvm_model.specs.Files.{OneFileLeft, on_pages}
-use Rattle.nvm_model.specs.Interrupted.{LineByLine, MayPersist, MayPut, MaySync}
+use Rattle.nvm_model.specs.Interrupted.{LineByLine}
 use Rattle.nvm_model.specs.Listing.{change_file, file_name}
 use Rattle.nvm_model.specs.Numbered.{map_from}
 use Rattle.nvm_model.specs.Page.{Page, map_lines, persist, put}
@@ -18,7 +20,7 @@ use Rattle.nvm_model.proofs.PageLemmas.{presence_of-lines}
 use Rattle.page_lines.specs.Placed.{IsPlaced}
 use Rattle.page_lines.specs.Turns.{MayTurn, Turns, WritesBackOthers}
 use Rattle.page_lines.proofs.OthersLemmas.{others-wider}
-use Rattle.page_lines.proofs.PutLemmas.{may_put-done}
+use Rattle.page_lines.proofs.ResultLemmas.{on_ok-then}
 use Rattle.page_lines.proofs.StandingLemmas.{left-turned, stand-turned}
 use Rattle.file_journal.specs.Area.{IsOfFiles}
 use Rattle.file_journal.specs.Object.{JournalServes, JournalState}
@@ -27,7 +29,8 @@ use Rattle.file_journal.specs.Tables.{AreTables}
 use Rattle.file_journal.proofs.EachFilesLemmas.{each_files-then}
 use Rattle.file_journal.proofs.FileLineLemmas.{page_line_apart, page_line_behind}
 use Rattle.file_journal.proofs.ServesLemmas.{journal-kept, served_files}
-use Rattle.file_pages.specs.Object.{IsFileAt, KeepsMarks, file_place, pages_there, units_of}
+use Rattle.file_pages.specs.Calls.{MayWork, WorksOn}
+use Rattle.file_pages.specs.Object.{IsFileAt, KeepsMarks, PlacesState, file_place, pages_there, unit_place, units_of}
 use Rattle.file_pages.proofs.ListedLemmas.{files-changed, files-left}
 use Rattle.file_pages.proofs.PlaceLemmas.{PagesOn, line_at, located, place_in, units_own}
 
@@ -57,7 +60,7 @@ pub reads-left : (s : JournalState) (m : Medium) (files : List File) (P : List F
 reads-left s m files P are serves stand is = each_files-then s.geo m (λ x. x ≡ files) P (λ x same. subst P (sym same) is) (served_files s m files are serves stand)
 
 -- lines of a file were worked on, and no others
-pub record IsWorked (s : JournalState) (old new : Medium) (inode start len : ℕ) : Type 0 where
+record IsWorked (s : JournalState) (old new : Medium) (inode start len : ℕ) : Type 0 where
   pub valid : IsValid s.geo
   pub are : AreTables s.geo.fpages s.tables
   pub low : inode < 64
@@ -70,17 +73,17 @@ module _ {s : JournalState} {old new : Medium} {inode start len : ℕ} (worked :
   placed_in : (n : ℕ) → IsPlaced (file_place s inode) start len n → HasLine s.geo file_pages n
   placed_in n is = place_in s.geo (units_of s.tables inode) (units_own s.geo.fpages s.tables are inode low) is.0 n is.2
 
-  pub turned-outside : WritesBackOthers (IsOfFiles s.geo) old new
+  turned-outside : WritesBackOthers (IsOfFiles s.geo) old new
   turned-outside = lines-outside s.geo old new (IsPlaced (file_place s inode) start len) placed_in beside
 
-  pub turned-marks : KeepsMarks s.geo old new
+  turned-marks : KeepsMarks s.geo old new
   turned-marks = lines-marks s.geo old new (IsPlaced (file_place s inode) start len) placed_in beside
 
-  pub turned-serves : JournalServes s new
+  turned-serves : JournalServes s new
   turned-serves = lines-serve s old new (IsPlaced (file_place s inode) start len) valid placed_in beside serves
 
   -- each line of the file that is there turned
-  pub turned-files : (f : ℕ → Cell → Cell) (g : List Page → List Page) → ((pages : List Page) → g pages ≡ map_from (map_lines f) 0 pages)
+  turned-files : (f : ℕ → Cell → Cell) (g : List Page → List Page) → ((pages : List Page) → g pages ≡ map_from (map_lines f) 0 pages)
       → ((n line : ℕ) → file_place s inode n ≡ Some line → Turns (f n) line old new)
       → (files : List File) (file : File) → IsFileAt s old inode files file → FilesStand s.geo new s.tables (change_file file_name file.name (on_pages g) files)
   turned-files f g is turned files file at =
@@ -94,7 +97,7 @@ module _ {s : JournalState} {old new : Medium} {inode start len : ℕ} (worked :
       files at.stand
 
   -- or may have been
-  pub turned-images : (f : ℕ → Cell → Cell) (R : ℕ → Cell → Cell → Type 0) → ((n : ℕ) (cell : Cell) → R n cell (f n cell)) → {T E : Type 0} (r : Result T E)
+  turned-images : (f : ℕ → Cell → Cell) (R : ℕ → Cell → Cell → Type 0) → ((n : ℕ) (cell : Cell) → R n cell (f n cell)) → {T E : Type 0} (r : Result T E)
       → OnOk r ((n line : ℕ) → file_place s inode n ≡ Some line → Turns (f n) line old new)
       → OnErr r ((n line : ℕ) → file_place s inode n ≡ Some line → MayTurn (R n) line old new)
       → (files : List File) (file : File) → IsFileAt s old inode files file → EachReadsFiles s.geo new (OneFileLeft file.name (LineByLine R) files)
@@ -106,23 +109,38 @@ module _ {s : JournalState} {old new : Medium} {inode start len : ℕ} (worked :
       files at.stand in
       reads-left s new left.0 (OneFileLeft file.name (LineByLine R) files) are turned-serves left.2 left.1
 
-  -- made durable, or put
-  pub persisted-files : ((n line : ℕ) → file_place s inode n ≡ Some line → Turns (persist_cell start len n) line old new)
-      → (files : List File) (file : File) → IsFileAt s old inode files file → FilesStand s.geo new s.tables (change_file file_name file.name (on_pages (λ pages. persist start len pages)) files)
-  unfolding persist
-  persisted-files turned = turned-files (persist_cell start len) (persist start len) (λ pages. refl) turned
+-- a put and a persist turn lines one by one
+pub put_turns : (at : ℕ) (bytes : List ℕ) (pages : List Page) → put at bytes pages ≡ map_from (map_lines (put_cell at bytes)) 0 pages
+unfolding put
+put_turns at bytes pages = refl
 
-  pub persisted-images : {T E : Type 0} (r : Result T E) → OnOk r ((n line : ℕ) → file_place s inode n ≡ Some line → Turns (persist_cell start len n) line old new)
-      → OnErr r ((n line : ℕ) → file_place s inode n ≡ Some line → MayTurn (MayPersist start len n) line old new)
-      → (files : List File) (file : File) → IsFileAt s old inode files file → EachReadsFiles s.geo new (OneFileLeft file.name (MaySync start len) files)
-  persisted-images r done stopped = turned-images (persist_cell start len) (MayPersist start len) (λ n cell. inr refl) r done stopped
+pub persist_turns : (start len : ℕ) (pages : List Page) → persist start len pages ≡ map_from (map_lines (persist_cell start len)) 0 pages
+unfolding persist
+persist_turns start len pages = refl
 
-  pub put-files : (bytes : List ℕ) → ((n line : ℕ) → file_place s inode n ≡ Some line → Turns (put_cell start bytes n) line old new)
-      → (files : List File) (file : File) → IsFileAt s old inode files file → FilesStand s.geo new s.tables (change_file file_name file.name (on_pages (λ pages. put start bytes pages)) files)
-  unfolding put
-  put-files bytes turned = turned-files (put_cell start bytes) (put start bytes) (λ pages. refl) turned
-
-  pub put-images : (bytes : List ℕ) {T E : Type 0} (r : Result T E) → OnOk r ((n line : ℕ) → file_place s inode n ≡ Some line → Turns (put_cell start bytes n) line old new)
-      → OnErr r ((n line : ℕ) → file_place s inode n ≡ Some line → MayTurn (MayPut start bytes n) line old new)
-      → (files : List File) (file : File) → IsFileAt s old inode files file → EachReadsFiles s.geo new (OneFileLeft file.name (LineByLine (MayPut start bytes)) files)
-  put-images bytes r done stopped = turned-images (put_cell start bytes) (MayPut start bytes) (λ n cell. may_put-done start n bytes cell) r done stopped
+-- what such a work promises, where the lines lie at these places
+module _ {D : Type 0} (state : D → Device) (s : JournalState) (before after : D) (inode start len : ℕ) (l : PlacesState) (lies : l ≡ record { geo = s.geo; units = units_of s.tables inode }) (may : MayWork s (state before) inode)
+    (valid : IsValid s.geo) {T : Type 0} (r : Result T Interruption) (f : ℕ → Cell → Cell) (R : ℕ → Cell → Cell → Type 0) (g : List Page → List Page) where
+  pub turned_works : ((pages : List Page) → g pages ≡ map_from (map_lines f) 0 pages) → ((n : ℕ) (cell : Cell) → R n cell (f n cell)) → (calls persists : (ℕ → Option ℕ) → ℕ)
+      → OnOk r ((n line : ℕ) → unit_place l.geo l.units n ≡ Some line → Turns (f n) line (state before).medium (state after).medium)
+      → OnErr r ((n line : ℕ) → unit_place l.geo l.units n ≡ Some line → MayTurn (R n) line (state before).medium (state after).medium)
+      → WritesBackOthers (IsPlaced (unit_place l.geo l.units) start len) (state before).medium (state after).medium
+      → Runs (calls (unit_place l.geo l.units)) (persists (unit_place l.geo l.units)) (ended r) (state before).panel (state after).panel
+      → WorksOn state s s before after r inode (record { to = g; may = LineByLine R }) (IsPlaced (file_place s inode) start len) (calls (file_place s inode)) (persists (file_place s inode))
+  turned_works is leaves calls persists =
+      subst (λ (l : PlacesState). OnOk r ((n line : ℕ) → unit_place l.geo l.units n ≡ Some line → Turns (f n) line (state before).medium (state after).medium)
+      → OnErr r ((n line : ℕ) → unit_place l.geo l.units n ≡ Some line → MayTurn (R n) line (state before).medium (state after).medium)
+      → WritesBackOthers (IsPlaced (unit_place l.geo l.units) start len) (state before).medium (state after).medium
+      → Runs (calls (unit_place l.geo l.units)) (persists (unit_place l.geo l.units)) (ended r) (state before).panel (state after).panel
+      → WorksOn state s s before after r inode (record { to = g; may = LineByLine R }) (IsPlaced (file_place s inode) start len) (calls (file_place s inode)) (persists (file_place s inode))) (sym lies)
+      (λ done stopped beside runs.
+      let worked : IsWorked s (state before).medium (state after).medium inode start len = record { valid = valid; are = may.tables; low = may.low; serves = may.serves; beside = beside } in
+      record {
+        ok = on_ok-then r (turned-files worked f g is) done;
+        images = turned-images worked f R leaves r done stopped;
+        beside = beside;
+        outside = turned-outside worked;
+        metadata = turned-marks worked;
+        serves = turned-serves worked;
+        runs = runs;
+      })

@@ -1,22 +1,22 @@
 // When calls are refused. None of this makes a counted call.
-ghost use Rattle.std.specs.Prelude.{◌≡◌, ◌+◌, ◌*◌, ◌<◌, ◌≤◌, ◌-◌, ◌^◌, ◌≢◌, IsTrue, List, None, OnOk, false, nat_lt, not, slice_index_or, true};
+ghost use Rattle.std.specs.Prelude.{◌≡◌, ◌+◌, ◌<◌, ◌≤◌, ◌^◌, ◌≢◌, IsTrue, None, OnOk, false, nat_lt, not, slice_index_or, true};
 ghost use Rattle.nvm_base.specs.declared.units.Span.{Span};
 ghost use Rattle.word_tables.specs.Bounds.{IsValid};
 ghost use Rattle.word_tables.specs.Layout.{meta_lines, total_lines};
-ghost use Rattle.line_device.specs.Panel.Outcome.{went};
-ghost use Rattle.line_words.specs.Told.{Checks, outcome_by};
+ghost use Rattle.line_words.specs.Told.{Checks};
 ghost use Rattle.inode_table.specs.Slots.{pages_at};
 ghost use Rattle.page_table.specs.Pages.{used_pages};
 ghost use Rattle.nvm_model.specs.Lines.{AreGood};
 ghost use Rattle.nvm_model.specs.Page.{absent_among};
-ghost use Rattle.nvm_model.specs.Storage.{File};
 ghost use Rattle.page_lines.specs.declared.finding.BadLines.TheVariants as bad;
 ghost use Rattle.page_lines.specs.Sought.{lowest_bad_in};
 ghost use Rattle.file_journal.specs.Object.{JournalServes};
 ghost use Rattle.file_journal.specs.Tables.{AreTables, unit_at};
+ghost use Rattle.file_pages.specs.Calls.{ChecksFile};
 ghost use Rattle.file_pages.specs.Checked.{IsReadable, IsStorable};
-ghost use Rattle.file_pages.specs.Object.{IsFileAt, file_place, pages_there};
+ghost use Rattle.file_pages.specs.Object.{file_place, pages_there};
 ghost use Rattle.file_pages.specs.Refusals.{bytes_refusal, full_refusal, metadata_refusal_if, page_says, poisoned_at, read_refusal, store_refusal};
+ghost use Rattle.file_pages.specs.Work.{IsSpanOf};
 
 use crate::PageFault;
 use crate::lines::FileLines;
@@ -37,11 +37,9 @@ pub(crate) fn check_readable<L: Lines>(
 ) -> Result<(), PageFault>
     requires serves { JournalServes journal.now (L.state dev.now).medium }
     requires inode { inode < 64 }
-    ensures refused { (files : List File) (file : File) → IsFileAt journal.now (L.state dev.now).medium inode files file
-        → Checks page_says (read_refusal file.pages span.start span.len) result }
-    ensures went { outcome_by page_says result ≡ went }
+    ensures checks { ChecksFile page_says journal.now (L.state dev.now).medium result inode
+        (λ pages. read_refusal pages span.start span.len) }
     ensures readable { OnOk result (IsReadable journal.now (L.state dev.now).medium inode span) }
-    ensures tables { AreTables journal.now.geo.fpages journal.now.tables }
     ensures valid { IsValid journal.now.geo }
 {
     check_bytes(journal, inode, span)?;
@@ -58,11 +56,9 @@ pub(crate) fn check_store<L: Lines>(
     requires serves { JournalServes journal.now (L.state dev.now).medium }
     requires inode { inode < 64 }
     requires few { span.len ≤ 65536 }
-    ensures refused { (files : List File) (file : File) → IsFileAt journal.now (L.state dev.now).medium inode files file
-        → Checks page_says (store_refusal journal.now (L.state dev.now).medium file.pages span.start span.len) result }
-    ensures went { outcome_by page_says result ≡ went }
+    ensures checks { ChecksFile page_says journal.now (L.state dev.now).medium result inode
+        (λ pages. store_refusal journal.now (L.state dev.now).medium pages span.start span.len) }
     ensures storable { OnOk result (IsStorable journal.now (L.state dev.now).medium inode span) }
-    ensures tables { AreTables journal.now.geo.fpages journal.now.tables }
     ensures valid { IsValid journal.now.geo }
 {
     check_bytes(journal, inode, span)?;
@@ -76,8 +72,7 @@ pub(crate) fn check_store<L: Lines>(
 fn check_bytes(journal: &Journal, inode: u64, span: Span) -> Result<(), PageFault>
     requires inode { inode < 64 }
     ensures refused { Checks page_says (bytes_refusal (pages_at journal.now.tables.files inode) span.start span.len) result }
-    ensures some { OnOk result (1 ≤ span.len) }
-    ensures within { OnOk result (span.start + span.len ≤ 4096 * pages_at journal.now.tables.files inode) }
+    ensures bytes { OnOk result (IsSpanOf (pages_at journal.now.tables.files inode) span) }
     ensures tables { AreTables journal.now.geo.fpages journal.now.tables }
     ensures valid { IsValid journal.now.geo }
     ensures small { pages_at journal.now.tables.files inode ≤ 256 }

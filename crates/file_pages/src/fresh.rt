@@ -1,6 +1,5 @@
 // Units for holes: taken, their lines made zeros, and named by the pages.
-ghost use Rattle.std.specs.Prelude.{◌≡◌, ◌+◌, ◌*◌, ◌<◌, ◌≤◌, ℕ, Some, None, IsTrue, MatchOption, OnOk, length, false};
-ghost use Rattle.std.specs.Result.{is_ok};
+ghost use Rattle.std.specs.Prelude.{◌≡◌, ◌+◌, ◌*◌, ◌<◌, ◌≤◌, ℕ, Some, None, IsTrue, MatchOption, OnOk, length};
 ghost use Rattle.free_pool.specs.Units.{IsTaken, free_count};
 ghost use Rattle.inode_table.specs.Slots.{pages_at};
 ghost use Rattle.line_device.specs.Medium.{Medium};
@@ -8,22 +7,18 @@ ghost use Rattle.line_device.specs.Panel.{Runs};
 ghost use Rattle.line_words.specs.Ending.{ended};
 ghost use Rattle.line_words.specs.Told.{refusal_of};
 ghost use Rattle.line_words.specs.Told.Told.{Stops};
-ghost use Rattle.line_words.specs.Words.{WritesBackOutside};
 ghost use Rattle.nvm_model.specs.Cell.{CellStands, zero_cell};
 ghost use Rattle.nvm_model.specs.Page.{absent_among};
 ghost use Rattle.page_lines.specs.Turns.{WritesBackOthers};
-ghost use Rattle.word_log.specs.Area.{IsOf};
-ghost use Rattle.word_log.specs.Changes.{commit_calls, commit_persists};
 ghost use Rattle.word_tables.specs.Bounds.{IsValid};
 ghost use Rattle.word_tables.specs.Layout.{total_lines};
-ghost use Rattle.file_journal.specs.Area.{file_area};
+ghost use Rattle.file_journal.specs.Calls.{IsReady, Works};
 ghost use Rattle.file_journal.specs.Changes.{named_units, switched};
-ghost use Rattle.file_journal.specs.Images.{EachReadsTables, IsEither};
-ghost use Rattle.file_journal.specs.Object.{JournalServes, JournalState, KeepsUnits};
-ghost use Rattle.file_journal.specs.Refusals.{journal_says, switch_refusal};
-ghost use Rattle.file_journal.specs.Switches.{AreHeld, AreSwitches, ArePagesOf};
-ghost use Rattle.file_pages.specs.Fresh.{AreFresh, AreOwn, GetsUnit, IsUnitLine, NeedsNone, Takes, switch_units};
+ghost use Rattle.file_journal.specs.Object.{JournalServes, JournalState};
+ghost use Rattle.file_journal.specs.Refusals.{journal_says};
 ghost use Rattle.file_journal.specs.Tables.{IsVacant, unit_at};
+ghost use Rattle.file_pages.specs.Calls.{MaySwitch};
+ghost use Rattle.file_pages.specs.Fresh.{AreFresh, AreOwn, GetsUnit, IsUnitLine, NeedsNone, Takes, switch_units};
 ghost use Rattle.file_pages.specs.Object.{pages_there, unit_place};
 
 use crate::checks::is_hole;
@@ -122,23 +117,10 @@ pub(crate) fn name_units<L: Lines>(
     inode: u64,
     fresh: &[(u64, Option<u64>)],
 ) -> Result<(), Interruption>
-    requires serves { JournalServes journal.old (L.state dev.old).medium }
-    requires settled { IsTrue journal.old.settled }
-    requires on { IsTrue (L.state dev.old).panel.power }
-    requires inode { inode < 64 }
-    requires switches { AreSwitches journal.old.geo.fpages fresh.now }
-    requires within { ArePagesOf (pages_at journal.old.tables.files inode) fresh.now }
-    requires held { AreHeld journal.old.tables.pages journal.old.free fresh.now }
-    requires unrefused { switch_refusal journal.old (L.state dev.old).medium inode fresh.now ≡ None }
-    ensures ok { OnOk result (journal.new.tables ≡ switched inode fresh.now journal.old.tables) }
-    ensures images { EachReadsTables journal.old.geo (L.state dev.new).medium
-        (IsEither journal.old.tables (switched inode fresh.now journal.old.tables)) }
-    ensures outside { WritesBackOutside (IsOf (file_area journal.old.geo)) (L.state dev.old).medium (L.state dev.new).medium }
-    ensures serves { OnOk result (JournalServes journal.new (L.state dev.new).medium) }
-    ensures object { (journal.new.geo ≡ journal.old.geo) × (journal.new.settled ≡ is_ok result) }
-    ensures units { OnOk result (KeepsUnits (named_units fresh.now) journal.old journal.new) }
-    ensures runs { Runs (commit_calls (5 + length fresh.now)) (commit_persists (5 + length fresh.now)) (ended result)
-        (L.state dev.old).panel (L.state dev.new).panel }
+    requires ready { IsReady journal.old (L.state dev.old) }
+    requires may { MaySwitch journal.old (L.state dev.old).medium inode fresh.now }
+    ensures works { Works L.state journal.old journal.new dev.old dev.new result (switched inode fresh.now journal.old.tables)
+        (named_units fresh.now) (5 + length fresh.now) }
 {
     match journal.switch_pages(dev, inode, fresh) {
         Ok(()) => Ok(()),

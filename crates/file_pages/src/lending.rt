@@ -1,5 +1,5 @@
 // A line lent by the device.
-ghost use Rattle.std.specs.Prelude.{◌≡◌, ◌*◌, ◌<◌, IfOk, IfSome, IsOkAnd, IsTrue, List, OnOk, Option, false, option_map, slice_index, ℕ};
+ghost use Rattle.std.specs.Prelude.{◌≡◌, ◌*◌, ◌<◌, IfOk, IfSome, IsOkAnd, IsTrue, OnOk, Option, false, option_map, slice_index, ℕ};
 ghost use Rattle.std.specs.Borrow.{sem};
 ghost use Rattle.std.specs.Io.BufRead.{Rests};
 ghost use Rattle.std.specs.Option.{option_copied};
@@ -9,11 +9,11 @@ ghost use Rattle.line_device.specs.Panel.Outcome.{went};
 ghost use Rattle.line_words.specs.Told.{Answers, Checks, outcome_by};
 ghost use Rattle.nvm_model.specs.Lines.{span_shown};
 ghost use Rattle.nvm_model.specs.Page.{cell_of, look};
-ghost use Rattle.nvm_model.specs.Storage.{File};
-ghost use Rattle.file_journal.specs.Tables.{AreTables};
+ghost use Rattle.file_pages.specs.Calls.{ChecksFile};
 ghost use Rattle.file_pages.specs.Checked.{IsReadable};
-ghost use Rattle.file_pages.specs.Object.{IsFileAt, PagesServe, file_place};
+ghost use Rattle.file_pages.specs.Object.{PagesServe, file_place};
 ghost use Rattle.file_pages.specs.Refusals.{PageRefusal, page_says, read_refusal};
+ghost use Rattle.file_pages.specs.Work.{IfFile};
 
 use crate::checks::check_readable;
 use crate::{FilePages, PageFault};
@@ -31,10 +31,10 @@ pub fn borrow_line<'a, L: Lines>(
     requires serves { PagesServe files.now (L.state dev.old).medium }
     requires on { IsTrue (L.state dev.old).panel.power }
     requires inode { inode < 64 }
-    ensures refused { (listed : List File) (file : File) → IsFileAt files.now.journal (L.state dev.old).medium inode listed file
-        → Answers page_says (read_refusal file.pages (64 * line) 64) result }
-    ensures ok { IfOk result (λ lent. (listed : List File) (file : File) → IsFileAt files.now.journal (L.state dev.old).medium inode listed file
-        → option_copied lent ≡ option_map (λ cell. look file.pages (64 * line) 64) (cell_of file.pages line)) }
+    ensures refused { IfFile files.now.journal (L.state dev.old).medium inode (λ pages.
+        Answers page_says (read_refusal pages (64 * line) 64) result) }
+    ensures ok { IfOk result (λ lent. IfFile files.now.journal (L.state dev.old).medium inode (λ pages.
+        option_copied lent ≡ option_map (λ cell. look pages (64 * line) 64) (cell_of pages line))) }
     ensures* after { sem 𝓛 (Rests L.row dev.entry (λ new.
         WritesBack (L.state dev.entry.now).medium (L.state new).medium
         × Runs 1 0 (outcome_by page_says result) (L.state dev.entry.now).panel (L.state new).panel)) }
@@ -52,14 +52,12 @@ fn place_of<L: Lines>(
 ) -> Result<Option<LineNo>, PageFault>
     requires serves { PagesServe files.now (L.state dev.now).medium }
     requires inode { inode < 64 }
-    ensures refused { (listed : List File) (file : File) → IsFileAt files.now.journal (L.state dev.now).medium inode listed file
-        → Checks page_says (read_refusal file.pages (64 * line) 64) result }
-    ensures went { outcome_by page_says result ≡ went }
+    ensures checks { ChecksFile page_says files.now.journal (L.state dev.now).medium result inode
+        (λ pages. read_refusal pages (64 * line) 64) }
     ensures place { IfOk result (λ place. option_map (λ l. l.0) place ≡ file_place files.now.journal inode line) }
     ensures readable { OnOk result (IsReadable files.now.journal (L.state dev.now).medium inode (record { start = 64 * line; len = 64 })) }
     ensures within { IfOk result (λ place. IfSome place (λ l. l.0 < (L.state dev.now).medium.count)) }
     ensures good { IfOk result (λ place. IfSome place (λ l. (L.state dev.now).medium.is_bad l.0 ≡ false)) }
-    ensures tables { AreTables files.now.journal.geo.fpages files.now.journal.tables }
 {
     if line >= PAGE / LINE * files.journal().pages(inode) {
         return Err(PageFault::Range);

@@ -1,12 +1,9 @@
-ghost use Rattle.std.specs.Prelude.{◌≡◌, ◌≤◌, IfOk, IsTrue, OnOk, true};
-ghost use Rattle.line_device.specs.Medium.{WritesBack, last_image};
+ghost use Rattle.std.specs.Prelude.{◌≡◌, IfOk, IsTrue, true};
+ghost use Rattle.line_device.specs.Medium.{last_image};
 ghost use Rattle.line_device.specs.Panel.{Runs};
 ghost use Rattle.line_words.specs.Told.{outcome_by};
-ghost use Rattle.line_words.specs.Words.{WritesBackOutside};
 ghost use Rattle.nvm_model.specs.Lines.{AreStrong};
-ghost use Rattle.word_log.specs.Area.{IsOf, gate_place};
-ghost use Rattle.word_log.specs.Mount.{LeavesWrong};
-ghost use Rattle.word_log.specs.Rest.{EachImage, IsReached};
+ghost use Rattle.word_log.specs.Leaving.{LeavesLog};
 ghost use Rattle.word_tables.specs.Bounds.{IsValid};
 ghost use Rattle.word_tables.specs.Layout.{meta_lines, total_lines};
 ghost use Rattle.file_journal.specs.Area.{file_area};
@@ -32,11 +29,7 @@ impl FilePages {
             × (files.journal.tables ≡ tables_read geo (last_image (L.state dev.old).medium))) }
         ensures held { IfOk result (λ files. known_units files.journal.tables.pages files.journal.free ≡ geo.fpages) }
         ensures finds { FindsJournal geo (L.state dev.old).medium result }
-        ensures images { EachImage (file_area geo) (L.state dev.new).medium (IsReached (file_area geo) (L.state dev.old).medium) }
-        ensures refused { LeavesWrong (file_area geo) (L.state dev.old).medium (L.state dev.new).medium }
-        ensures closed { last_image (L.state dev.old).medium (gate_place (file_area geo)) ≡ 0
-            → WritesBack (L.state dev.old).medium (L.state dev.new).medium }
-        ensures outside { WritesBackOutside (IsOf (file_area geo)) (L.state dev.old).medium (L.state dev.new).medium }
+        ensures leaves { LeavesLog (file_area geo) (L.state dev.old).medium (L.state dev.new).medium }
         ensures serves { IfOk result (λ files. PagesServe files (L.state dev.new).medium) }
         ensures settled { IfOk result (λ files. IsTrue (is_settled files)) }
         ensures runs { Runs 5387 2456 (outcome_by journal_mount_says result) (L.state dev.old).panel (L.state dev.new).panel }

@@ -1,12 +1,12 @@
 // What is known of files without a counted call.
-ghost use Rattle.std.specs.Prelude.{◌≡◌, ◌↔◌, ◌+◌, ◌*◌, ◌/◌, ◌<◌, ◌≤◌, ◌^◌, ◌∷◌, [], IfSome, IsNone, List, None, option_map};
+ghost use Rattle.std.specs.Prelude.{◌≡◌, ◌↔◌, ◌*◌, ◌/◌, ◌<◌, ◌^◌, ◌∷◌, [], IfSome, IsNone, None, option_map};
 ghost use Rattle.std.specs.Borrow.{sem};
 ghost use Rattle.inode_table.specs.Slots.{pages_at};
-ghost use Rattle.nvm_model.specs.Storage.{File};
 ghost use Rattle.nvm_model.specs.Touched.{next_bad_touched};
 ghost use Rattle.file_journal.specs.Tables.{unit_at};
-ghost use Rattle.file_pages.specs.Object.{IsFileAt, PagesServe, file_place, is_settled};
+ghost use Rattle.file_pages.specs.Object.{PagesServe, file_place, is_settled};
 ghost use Rattle.file_pages.specs.Lends.{lends_journal};
+ghost use Rattle.file_pages.specs.Work.{IfFile, IsSpanOf};
 
 use crate::FilePages;
 use crate::lines::FileLines;
@@ -55,10 +55,9 @@ impl FilePages {
     pub fn next_bad<L: Lines>(&self, dev: &L, inode: u64, span: Span, from: u64) -> Option<u64>
         requires serves { PagesServe self.now (L.state dev.now).medium }
         requires inode { inode < 64 }
-        requires some { 1 ≤ span.len }
-        requires within { span.start + span.len ≤ 4096 * pages_at self.now.journal.tables.files inode }
-        ensures next { (files : List File) (file : File) → IsFileAt self.now.journal (L.state dev.now).medium inode files file
-            → result ≡ next_bad_touched (span ∷ []) file.pages from }
+        requires bytes { IsSpanOf (pages_at self.now.journal.tables.files inode) span }
+        ensures next { IfFile self.now.journal (L.state dev.now).medium inode (λ pages.
+            result ≡ next_bad_touched (span ∷ []) pages from) }
         ensures below { IfSome result (λ n. n < 2 ^ 14) }
     {
         let _size = self.journal.pages(inode);

@@ -1,21 +1,13 @@
-use Rattle.std.proofs.Common.{sym, subst}
-use Rattle.line_device.proofs.WriteBackLemmas.{write_back-refl}
-use Rattle.file_journal.proofs.ServesLemmas.{journal-write_back}
-use Rattle.file_journal.specs.Object.{JournalServes}
-use Rattle.file_pages.specs.Object.{PagesState}
+use Rattle.std.proofs.Common.{refl}
+use Rattle.file_pages.proofs.CallLemmas.{done_loads, refused_loads, stopped_loads}
 use Rattle.file_pages.proofs.FilePages.load_into.Goals as goal
 
-pub returns-in_err-check_readable-clause-lines : goal.returns-in_err-check_readable-clause-lines
-returns-in_err-check_readable-clause-lines g c = write_back-refl _
+pub returns-in_err-check_readable-clause-loads : goal.returns-in_err-check_readable-clause-loads
+returns-in_err-check_readable-clause-loads g c = rw (← c.self.view_is) (refused_loads _ _ _ _ _ _ _ _ c.from_residual.ensures.1 c.in_err-check_readable.ensures.checks (rw (← c.self.view_is) at c.requires.ready) _)
 
-pub returns-in_err-load-clause-serves : goal.returns-in_err-load-clause-serves
-returns-in_err-load-clause-serves g c =
-    let old = (g.L.Lines.state c.args.dev.now).medium in
-    journal-write_back c.self.inside.journal old (g.L.Lines.state c.load.new.dev).medium c.load.ensures.lines
-    (subst (λ (p : PagesState). JournalServes p.journal old) (sym c.self.view_is) c.requires.serves)
+pub returns-in_err-load-clause-loads : goal.returns-in_err-load-clause-loads
+returns-in_err-load-clause-loads g c =
+    rw (← c.self.view_is) (stopped_loads _ _ _ _ _ _ refl (rw (← c.self.view_is) at c.requires.ready) c.load.ensures.lines _ _ _ c.from_residual-in_err-load.ensures.1 c.in_err-load.ensures.runs refl)
 
-pub returns-clause-serves : goal.returns-clause-serves
-returns-clause-serves g c =
-    let old = (g.L.Lines.state c.args.dev.now).medium in
-    journal-write_back c.self.inside.journal old (g.L.Lines.state c.load.new.dev).medium c.load.ensures.lines
-    (subst (λ (p : PagesState). JournalServes p.journal old) (sym c.self.view_is) c.requires.serves)
+pub returns-clause-loads : goal.returns-clause-loads
+returns-clause-loads g c = rw (← c.self.view_is) (done_loads _ _ _ _ _ _ refl (rw (← c.self.view_is) at c.requires.ready) c.load.ensures.lines _ _ c.in_ok-load.ensures.runs refl)

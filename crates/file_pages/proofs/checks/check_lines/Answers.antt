@@ -1,20 +1,15 @@
 use Rattle.std.proofs.Common.{◌≡◌, ◌*◌, Err, refl, ◌&&◌, sym, subst, ◌∙◌, Some, Option, ℕ, arith}
 use Rattle.line_words.specs.Told.{Checks}
-use Rattle.page_lines.specs.Placed.{AreApart}
 use Rattle.page_lines.specs.Sought.{is_bad_at, is_sought, lowest_bad_in}
 use Rattle.page_lines.proofs.SearchLemmas.{found_small}
 use Rattle.file_pages.specs.Object.{PlacesState, unit_place}
 use Rattle.file_pages.specs.declared.fault.PageFault.TheVariants.{Poison}
 use Rattle.file_pages.specs.Refusals.{page_says, poisoned_at}
-use Rattle.file_pages.proofs.PlaceLemmas.{places_apart, units_own}
+use Rattle.file_pages.proofs.PlaceLemmas.{file_apart}
 use Rattle.file_pages.proofs.checks.check_lines.Goals as goal
 
 pub lowest_bad-requires-clause-apart : goal.lowest_bad-requires-clause-apart
-lowest_bad-requires-clause-apart g c =
-    let s = c.args.journal.now in
-    let count = (g.L.Lines.state c.args.dev.now).medium.count in
-    subst (λ (l : PlacesState). AreApart (unit_place l.geo l.units) count) (sym c.of-lines.ensures)
-    (places_apart s.geo _ (units_own s.geo.fpages s.tables c.requires.tables c.args.inode c.requires.inode) count c.requires.serves.count)
+lowest_bad-requires-clause-apart g c = file_apart c.args.journal.now _ _ _ c.of-lines.ensures c.requires.tables c.requires.inode c.requires.serves.count
 
 pub overflow_mul-result : goal.overflow_mul-result
 overflow_mul-result g c =

@@ -1,57 +1,42 @@
-use Rattle.std.proofs.Common.{◌≡◌, ◌⊎◌, ◌+◌, ◌*◌, ℕ, List, Option, length, sym, ap, subst, ◌∙◌, arith}
+use Rattle.std.proofs.Common.{◌≡◌, ◌+◌, ◌*◌, ℕ, List, Option, length, refl, sym, ap, subst, ◌∙◌, arith}
 use Rattle.std.proofs.lemmas.Bool.{eqb-true}
 use Rattle.line_device.specs.Panel.{Runs}
 use Rattle.line_words.specs.Ending.{ended}
 use Rattle.word_log.specs.Changes.{commit_calls, commit_persists}
 use Rattle.page_table.specs.Pages.{used_pages}
 use Rattle.nvm_model.specs.Page.{absent_among, absent_touched}
-use Rattle.nvm_model.specs.Files.{OneFileLeft, on_pages}
 use Rattle.nvm_model.specs.Lines.{AreGood}
-use Rattle.nvm_model.specs.Listing.{change_file, file_name}
-use Rattle.nvm_model.specs.Page.{fill}
-use Rattle.page_lines.proofs.OthersLemmas.{others-refl}
 use Rattle.page_lines.proofs.ResultLemmas.{on_ok-then}
 use Rattle.word_tables.specs.declared.geometry.Geometry.{Geometry}
 use Rattle.word_tables.specs.Layout.{meta_lines}
 use Rattle.file_journal.specs.Object.{JournalState}
-use Rattle.file_journal.specs.Standing.{EachReadsFiles, FilesStand}
 use Rattle.file_journal.proofs.ServesLemmas.{journal-same}
+use Rattle.file_pages.specs.Calls.{MayWork}
 use Rattle.file_pages.specs.Fresh.{AreFresh}
 use Rattle.file_pages.specs.Object.{pages_there}
-use Rattle.file_pages.proofs.FillLemmas.{covered_same, file_same, fill_runs, holes_touched_are, no_holes, not_empty, some_holes, there_same, unfilled-files, unfilled-images}
+use Rattle.file_pages.proofs.FillLemmas.{covered_same, fill_runs, no_holes, not_empty, same_works, some_holes, there_same, unfilled_works}
+use Rattle.file_pages.proofs.PassLemmas.{holes_are}
 use Rattle.file_pages.proofs.filling.fill.Given as given
 use Rattle.file_pages.proofs.filling.fill.Goals as goal
 use Rattle.file_pages.proofs.filling.fill.Goals.{After-take_units-fresh}
 
-holes : (g : given.Over) (c : goal.After-take_units-fresh g) → length c.take_units-fresh.result.items ≡ absent_touched c.args.span.start c.args.span.len (pages_there c.args.journal.now c.args.inode)
+holes : (g : given.Over) (c : After-take_units-fresh g) → length c.take_units-fresh.result.items ≡ absent_touched c.args.span.start c.args.span.len (pages_there c.args.journal.now c.args.inode)
 holes g c =
     let s = c.args.journal.now in
     let j = c.take_units-fresh.new.journal in
     let pages = c.pages_of-pages.result in
     let there = there_same s j j.free c.take_units-fresh.ensures.journal (g.L.Lines.state c.args.dev.now).medium c.args.inode in
-    holes_touched_are (pages_there s c.args.inode) c.args.span pages (length c.take_units-fresh.result.items) c.pages_of-pages.ensures.value (c.take_units-fresh.ensures.fresh.number ∙ ap (λ bs. absent_among bs pages.start pages.len) there)
+    holes_are (pages_there s c.args.inode) c.args.span pages (length c.take_units-fresh.result.items) c.pages_of-pages.ensures.value (c.take_units-fresh.ensures.fresh.number ∙ ap (λ bs. absent_among bs pages.start pages.len) there)
 
-pub returns-then-is_empty-clause-ok : goal.returns-then-is_empty-clause-ok
-returns-then-is_empty-clause-ok g c = λ files file at.
-    let s = c.args.journal.now in
-    let old = (g.L.Lines.state c.args.dev.now).medium in
-    let none = no_holes _ _ _ c.requires.storable.some (holes g (goal.at.returns-then-is_empty-clause-ok g c).After-take_units-fresh) (eqb-true _ 0 (sym c.is_empty.ensures ∙ c.if-is_empty.true)) in
-    subst (λ (t : JournalState). FilesStand s.geo old t.tables (change_file file_name file.name (on_pages (λ p. fill c.args.span.start c.args.span.len p)) files)) (sym c.take_units-fresh.ensures.journal)
-    (unfilled-files s old c.args.inode c.requires.tables c.args.span none files file at)
+pub returns-then-is_empty-clause-works : goal.returns-then-is_empty-clause-works
+returns-then-is_empty-clause-works g c =
+    unfilled_works _ _ _ _ _ c.args.span _ _ c.take_units-fresh.ensures.journal c.requires.may
+    (no_holes _ _ _ c.requires.storable.some (holes g (goal.at.returns-then-is_empty-clause-works g c).After-take_units-fresh) (eqb-true _ 0 (sym c.is_empty.ensures ∙ c.if-is_empty.true)))
 
-pub returns-then-is_empty-clause-images : goal.returns-then-is_empty-clause-images
-returns-then-is_empty-clause-images g c = λ files file at.
-    let s = c.args.journal.now in
-    let none = no_holes _ _ _ c.requires.storable.some (holes g (goal.at.returns-then-is_empty-clause-images g c).After-take_units-fresh) (eqb-true _ 0 (sym c.is_empty.ensures ∙ c.if-is_empty.true)) in
-    unfilled-images s (g.L.Lines.state c.args.dev.now).medium c.args.inode c.requires.tables c.args.span none files file at c.requires.serves
-
-pub returns-then-is_empty-clause-outside : goal.returns-then-is_empty-clause-outside
-returns-then-is_empty-clause-outside g c = others-refl _ _
-
-pub fill_with-requires-clause-serves : goal.fill_with-requires-clause-serves
-fill_with-requires-clause-serves g c =
-    let e = c.take_units-fresh.ensures.journal in
-    journal-same c.args.journal.now c.take_units-fresh.new.journal (g.L.Lines.state c.args.dev.now).medium (ap (λ (t : JournalState). t.geo) e) (ap (λ (t : JournalState). t.tables) e) c.requires.serves
+pub fill_with-requires-clause-may : goal.fill_with-requires-clause-may
+fill_with-requires-clause-may g c =
+    let may = c.requires.may in
+    rw c.take_units-fresh.ensures.journal (record { serves = journal-same c.args.journal.now _ _ refl refl may.serves; tables = may.tables; on = may.on; low = may.low })
 
 pub fill_with-requires-clause-room : goal.fill_with-requires-clause-room
 fill_with-requires-clause-room g c =
@@ -73,22 +58,17 @@ fill_with-requires-clause-fresh g c =
     let j = c.take_units-fresh.new.journal in
     subst (λ (fs : List (ℕ × Option ℕ)). AreFresh j c.args.inode c.pages_of-pages.result.start c.pages_of-pages.result.len fs j.free) (sym c.as_slice.ensures.value) c.take_units-fresh.ensures.fresh
 
-pub returns-clause-ok : goal.returns-clause-ok
-returns-clause-ok g c =
-    let j = c.take_units-fresh.new.journal in
-    let e = c.take_units-fresh.ensures.journal in
-    on_ok-then c.fill_with.result
-    (λ done files file at.
-    subst (λ (t : JournalState). FilesStand t.geo (g.L.Lines.state c.fill_with.new.dev).medium c.fill_with.new.journal.tables (change_file file_name file.name (on_pages (λ p. fill c.args.span.start c.args.span.len p)) files)) e
-    (done files file (file_same c.args.journal.now j j.free e (g.L.Lines.state c.args.dev.now).medium c.args.inode files file at)))
-    c.fill_with.ensures.ok
-
-pub returns-clause-images : goal.returns-clause-images
-returns-clause-images g c = λ files file at.
-    let j = c.take_units-fresh.new.journal in
-    let e = c.take_units-fresh.ensures.journal in
-    subst (λ (t : JournalState). EachReadsFiles t.geo (g.L.Lines.state c.fill_with.new.dev).medium (OneFileLeft file.name (λ was left. (left ≡ was) ⊎ (left ≡ fill c.args.span.start c.args.span.len was)) files)) e
-    (c.fill_with.ensures.images files file (file_same c.args.journal.now j j.free e (g.L.Lines.state c.args.dev.now).medium c.args.inode files file at))
+pub returns-clause-works : goal.returns-clause-works
+returns-clause-works g c =
+    let few = holes g (goal.at.returns-clause-works g c).After-take_units-fresh in
+    let some = some_holes _ _ _ c.requires.storable.some few (not_empty _ (sym c.is_empty.ensures ∙ c.if-is_empty.false)) in
+    let p = (g.L.Lines.state c.args.dev.now).panel in
+    let q = (g.L.Lines.state c.fill_with.new.dev).panel in
+    same_works _ _ _ _ _ _ _ _ c.args.span _ _ _ _ c.take_units-fresh.ensures.journal
+    (λ runs.
+    fill_runs c.args.journal.now c.args.inode c.args.span _ _ p q few some
+    (subst (λ (k : ℕ). Runs (64 * k + commit_calls (5 + k)) (commit_persists (5 + k)) (ended c.fill_with.result) p q) (ap length c.as_slice.ensures.value) runs))
+    c.fill_with.ensures.works
 
 pub returns-clause-held : goal.returns-clause-held
 returns-clause-held g c =
@@ -102,16 +82,6 @@ returns-clause-held g c =
       ap (λ (t : JournalState). used_pages t.tables.pages) e,
       ap (λ (t : JournalState). t.geo.fpages) e,
       ap length c.as_slice.ensures.value,
-      ap (λ (geo : Geometry). geo.fpages) c.fill_with.ensures.object.0,
+      ap (λ (geo : Geometry). geo.fpages) c.fill_with.ensures.works.geo,
     ))
     c.fill_with.ensures.known
-
-pub returns-clause-runs : goal.returns-clause-runs
-returns-clause-runs g c =
-    let s = c.args.journal.now in
-    let few = holes g (goal.at.returns-clause-runs g c).After-take_units-fresh in
-    let some = some_holes _ _ _ c.requires.storable.some few (not_empty _ (sym c.is_empty.ensures ∙ c.if-is_empty.false)) in
-    let p = (g.L.Lines.state c.args.dev.now).panel in
-    let q = (g.L.Lines.state c.fill_with.new.dev).panel in
-    fill_runs s c.args.inode c.args.span _ _ p q few some
-    (subst (λ (k : ℕ). Runs (64 * k + commit_calls (5 + k)) (commit_persists (5 + k)) (ended c.fill_with.result) p q) (ap length c.as_slice.ensures.value) c.fill_with.ensures.runs)

@@ -6,9 +6,9 @@ pub returns : goal.returns
 returns g c = (
   (refl, λ _. tt, c.lend.follows.holds-at-none),
   record {
-    refused = λ listed file at. c.lend.ensures.refused _ (c.place_of-place.ensures.refused listed file at);
+    refused = λ listed file at. c.lend.ensures.refused _ (c.place_of-place.ensures.checks.refused listed file at);
     ok =
-        lent_shows c.args.files.now.journal (g.L.Lines.state c.args.dev.now).medium c.args.inode c.args.line c.place_of-place.ensures.tables c.lend.result c.place_of-place.result
+        lent_shows c.args.files.now.journal (g.L.Lines.state c.args.dev.now).medium c.args.inode c.args.line c.place_of-place.ensures.checks.tables c.lend.result c.place_of-place.result
         c.place_of-place.ensures.readable c.place_of-place.ensures.place c.lend.ensures.ok;
     after = tt;
   },

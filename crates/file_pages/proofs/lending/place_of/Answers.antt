@@ -1,4 +1,4 @@
-use Rattle.std.proofs.Common.{◌≡◌, ◌*◌, ◌/◌, ap, subst, ◌∙◌, arith}
+use Rattle.std.proofs.Common.{◌≡◌, ◌*◌, ◌/◌, ap, refl, subst, ◌∙◌, arith}
 use Rattle.nvm_base.specs.declared.units.Span.{Span}
 use Rattle.inode_table.specs.Slots.{pages_at}
 use Rattle.file_journal.specs.Object.{JournalState}
@@ -9,12 +9,12 @@ use Rattle.file_pages.specs.Object.{file_place}
 use Rattle.file_pages.proofs.LentLemmas.{lent_good, lent_within, past_refused}
 use Rattle.file_pages.proofs.lending.place_of.Goals as goal
 
-pub returns-then-line-pages-clause-refused : goal.returns-then-line-pages-clause-refused
-returns-then-line-pages-clause-refused g c = λ listed file at.
+pub returns-then-line-pages-clause-checks : goal.returns-then-line-pages-clause-checks
+returns-then-line-pages-clause-checks g c =
     let j = c.args.files.now.journal in
     let tables = subst (λ (k : JournalState). AreTables k.geo.fpages k.tables) c.journal.ensures c.pages.ensures.tables in
     let size = subst (λ (k : JournalState). c.pages.result ≡ pages_at k.tables.files c.args.inode) c.journal.ensures c.pages.ensures.pages in
-    past_refused j (g.L.Lines.state c.args.dev.now).medium c.args.inode c.args.line tables listed file at _ (omega (arith, size, c.if-line-pages.true))
+    record { refused = λ files file at. past_refused j (g.L.Lines.state c.args.dev.now).medium c.args.inode c.args.line tables files file at _ (omega (arith, size, c.if-line-pages.true)); went = refl; tables = tables }
 
 pub overflow_mul-span : goal.overflow_mul-span
 overflow_mul-span g c =

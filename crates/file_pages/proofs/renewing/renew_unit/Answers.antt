@@ -6,7 +6,7 @@ use Rattle.page_lines.proofs.ResultLemmas.{on_ok-then}
 use Rattle.file_journal.proofs.FileLineLemmas.{page_line_within}
 use Rattle.file_journal.proofs.StandingLemmas.{unit_line_in}
 use Rattle.file_pages.specs.Fresh.{durable_cell}
-use Rattle.file_pages.proofs.RenewLemmas.{IsRenewed, of_unit, renewed-files, renewed-images, renewed-marks, renewed-outside, renewed-serves}
+use Rattle.file_pages.proofs.RenewLemmas.{IsRenewed, of_unit, renewed-before, renewed-images}
 use Rattle.file_pages.proofs.renewing.renew_unit.Given as given
 use Rattle.file_pages.proofs.renewing.renew_unit.Goals as goal
 use Rattle.file_pages.proofs.renewing.renew_unit.Goals.{After-renew_lines}
@@ -37,17 +37,8 @@ returns-clause-lines g c =
 pub returns-clause-beside : goal.returns-clause-beside
 returns-clause-beside g c = (renewed g (goal.at.returns-clause-beside g c).After-renew_lines).beside
 
-pub returns-clause-files : goal.returns-clause-files
-returns-clause-files g c = renewed-files (renewed g (goal.at.returns-clause-files g c).After-renew_lines)
+pub returns-clause-before : goal.returns-clause-before
+returns-clause-before g c = renewed-before (renewed g (goal.at.returns-clause-before g c).After-renew_lines)
 
 pub returns-clause-images : goal.returns-clause-images
 returns-clause-images g c = renewed-images (renewed g (goal.at.returns-clause-images g c).After-renew_lines)
-
-pub returns-clause-outside : goal.returns-clause-outside
-returns-clause-outside g c = renewed-outside (renewed g (goal.at.returns-clause-outside g c).After-renew_lines)
-
-pub returns-clause-metadata : goal.returns-clause-metadata
-returns-clause-metadata g c = renewed-marks (renewed g (goal.at.returns-clause-metadata g c).After-renew_lines)
-
-pub returns-clause-serves : goal.returns-clause-serves
-returns-clause-serves g c = renewed-serves (renewed g (goal.at.returns-clause-serves g c).After-renew_lines)
