@@ -3,8 +3,8 @@ use Rattle.std.proofs.Common.{◌≡◌, ℕ, true, false, List, Option, Some, N
 use Rattle.std.specs.Result.{IsErrAnd}
 use Rattle.std.proofs.lemmas.Bool.{and_parts}
 use Rattle.line_device.specs.Device.{Device}
-use Rattle.line_device.specs.Medium.{WritesBack}
-use Rattle.line_device.specs.Panel.{Outcome, Runs}
+use Rattle.line_device.specs.Medium.{Medium}
+use Rattle.line_device.specs.Panel.{Runs}
 use Rattle.line_device.specs.Panel.Outcome.{went}
 use Rattle.line_device.proofs.PanelLemmas.{runs-refl, runs_within}
 use Rattle.line_device.proofs.WriteBackLemmas.{write_back-refl}
@@ -95,109 +95,12 @@ module _ {D T U E R : Type 0} (state : D → Device) (says : E → Told R) (s : 
         runs = runs calls 0;
       })
 
--- One that passes the test ends as its work ended.
-module _ {D U E R : Type 0} (state : D → Device) (says : E → Told R) (s t : PagesState) (before after : D) (inode : ℕ) (why : List Page → Option R) (work : PageWork) (u : U)
-    (j : JournalState) (view : j ≡ s.journal) (checks : ChecksFile {T = U} says j (state before).medium (Ok u) inode why) where
-  none : IfFile s.journal (state before).medium inode (λ pages. why pages ≡ None)
-  none files file at = checks_passed says (why file.pages) u ((subst (λ (k : JournalState). ChecksFile {T = U} says k (state before).medium (Ok u) inode why) view checks).refused files file at)
+-- One that passes the test is not refused.
+module _ {U E R : Type 0} (says : E → Told R) (s : JournalState) (m : Medium) (inode : ℕ) (why : List Page → Option R) (u : U) (checks : ChecksFile {T = U} says s m (Ok u) inode why) where
+  pub passed_well : {T : Type 0} (x : T) → IfFile s m inode (λ pages. Answers says (why pages) (Ok x))
+  passed_well x files file at = subst (λ (o : Option R). Answers says o (Ok x)) (sym (checks_passed says (why file.pages) u (checks.refused files file at))) tt
 
-  well : {T : Type 0} (x : T) → IfFile s.journal (state before).medium inode (λ pages. Answers says (why pages) (Ok x))
-  well x files file at = subst (λ (o : Option R). Answers says o (Ok x)) (sym (none files file at)) tt
-
-  ill : (T : Type 0) (fault : E) (stop : Interruption) → says fault ≡ Stops stop → IfFile s.journal (state before).medium inode (λ pages. Answers {T = T} says (why pages) (Err fault))
-  ill T fault stop told files file at = subst (λ (o : Option R). Answers {T = T} says o (Err fault)) (sym (none files file at)) (stop_worked (says fault) stop told)
-
-  module _ (units calls persists : ℕ) where
-    pub done_changes : {T V : Type 0} (x : T) (y : V) → WorksOnTables state s.journal t.journal before after (Ok y) inode work calls persists → IsTrue (is_settled t) → known_units t.journal.tables.pages t.journal.free ≡ units
-        → ChangesFile state says s t before after (Ok x) inode why work units calls persists
-    done_changes x y works settled held = record {
-      refused = well x;
-      untouched = tt;
-      ok = works.ok;
-      images = works.images;
-      outside = works.outside;
-      metadata = works.metadata;
-      serves = λ _. works.serves;
-      tables = works.tables;
-      files = works.files;
-      object = (works.geo, settled);
-      held = λ _. held;
-      runs = works.runs;
-    }
-
-    pub stopped_changes : {T V : Type 0} (result : Result T E) (stop : Interruption) → IsErrAnd result (λ fault. says fault ≡ Stops stop)
-        → WorksOnTables {T = V} state s.journal t.journal before after (Err stop) inode work calls persists → is_settled t ≡ false → ChangesFile state says s t before after result inode why work units calls persists
-    stopped_changes (Ok x) stop told works unsettled = absurd told
-    stopped_changes {T = T} (Err fault) stop told works unsettled =
-        let ends : told_outcome (says fault) ≡ stop_outcome stop = ap told_outcome told in
-        record {
-          refused = ill T fault stop told;
-          untouched = λ refused. absurd (refused (stop_worked (says fault) stop told));
-          ok = tt;
-          images = λ _. works.images;
-          outside = works.outside;
-          metadata = works.metadata;
-          serves = λ settled. absurd (both (sym settled ∙ unsettled));
-          tables = tt;
-          files = tt;
-          object = (works.geo, unsettled ∙ sym (ap is_done ends ∙ stop_undone stop));
-          held = λ settled. absurd (both (sym settled ∙ unsettled));
-          runs = subst (λ e. Runs calls persists e (state before).panel (state after).panel) (sym ends) works.runs;
-        }
-      where
-        both : true ≡ false → ⊥
-        both is = cc is
-
-  module _ (lines : ℕ → Type 0) (calls : ℕ) (same : t.journal ≡ s.journal) where
-    pub done_syncs : {T V : Type 0} (x : T) (y : V) → WorksOn state s.journal t.journal before after (Ok y) inode work lines calls calls → t.settled ≡ true → SyncsFile state says s t before after (Ok x) (Ok x) inode why work lines calls
-    done_syncs x y works settled = record {
-      refused = well x;
-      untouched = tt;
-      ok = works.ok;
-      images = works.images;
-      beside = works.beside;
-      outside = works.outside;
-      metadata = works.metadata;
-      serves = works.serves;
-      object = (same, settled);
-      runs = works.runs;
-    }
-
-    pub stopped_syncs : {T V : Type 0} (result : Result T E) (stop : Interruption) → IsErrAnd result (λ fault. says fault ≡ Stops stop)
-        → WorksOn {T = V} state s.journal t.journal before after (Err stop) inode work lines calls calls → t.settled ≡ is_done (stop_outcome stop) → SyncsFile state says s t before after result result inode why work lines calls
-    stopped_syncs (Ok x) stop told works settled = absurd told
-    stopped_syncs {T = T} (Err fault) stop told works settled =
-        let ends : told_outcome (says fault) ≡ stop_outcome stop = ap told_outcome told in
-        record {
-          refused = ill T fault stop told;
-          untouched = λ refused. absurd (refused (stop_worked (says fault) stop told));
-          ok = tt;
-          images = λ _. works.images;
-          beside = works.beside;
-          outside = works.outside;
-          metadata = works.metadata;
-          serves = works.serves;
-          object = (same, settled ∙ sym (ap is_done ends));
-          runs = subst (λ e. Runs calls calls e (state before).panel (state after).panel) (sym ends) works.runs;
-        }
-
--- One that only loads keeps what the device stands for.
-module _ {D E R : Type 0} (state : D → Device) (says : E → Told R) (s t : PagesState) (before after : D) (same : t.journal ≡ s.journal) (ready : AreReady s (state before)) (lines : WritesBack (state before).medium (state after).medium) (calls : ℕ) where
-  kept : PagesServe t (state after).medium
-  kept = journal-write_back t.journal (state before).medium (state after).medium lines (subst (λ (j : JournalState). JournalServes j (state before).medium) (sym same) ready.serves)
-
-  pub done_loads : {T : Type 0} (x : T) → Runs calls 0 went (state before).panel (state after).panel → t.settled ≡ true → Loads state says s t before after (Ok x) calls
-  done_loads x runs settled = record { untouched = tt; lines = lines; serves = kept; object = (same, settled); runs = runs }
-
-  pub stopped_loads : {T : Type 0} (result : Result T E) (stop : Interruption) → IsErrAnd result (λ fault. says fault ≡ Stops stop) → Runs calls 0 (stop_outcome stop) (state before).panel (state after).panel → t.settled ≡ false
-      → Loads state says s t before after result calls
-  stopped_loads (Ok x) stop told runs unsettled = absurd told
-  stopped_loads (Err fault) stop told runs unsettled =
-      let ends : told_outcome (says fault) ≡ stop_outcome stop = ap told_outcome told in
-      record {
-        untouched = λ refused. absurd (refused (stop_worked (says fault) stop told));
-        lines = lines;
-        serves = kept;
-        object = (same, unsettled ∙ sym (ap is_done ends ∙ stop_undone stop));
-        runs = subst (λ e. Runs calls 0 e (state before).panel (state after).panel) (sym ends) runs;
-      }
+  pub passed_ill : {T : Type 0} (r : Result T E) (stop : Interruption) → IsErrAnd r (λ fault. says fault ≡ Stops stop) → IfFile s m inode (λ pages. Answers says (why pages) r)
+  passed_ill (Ok x) stop told files file at = absurd told
+  passed_ill {T = T} (Err fault) stop told files file at =
+      subst (λ (o : Option R). Answers {T = T} says o (Err fault)) (sym (checks_passed says (why file.pages) u (checks.refused files file at))) (stop_worked (says fault) stop told)

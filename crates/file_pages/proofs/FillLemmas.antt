@@ -1,32 +1,25 @@
 -- A journal that took units for holes, and one that needs none.
-use Rattle.std.proofs.Common.{◌≡◌, inl, ℕ, zero, suc, ◌==◌, ◌+◌, ◌*◌, ◌<◌, ◌≤◌, Bool, true, false, List, Result, Ok, if◌then◌else◌, refl, sym, ap, subst, ◌∙◌, arith}
+use Rattle.std.proofs.Common.{◌≡◌, inl, ℕ, zero, suc, ◌==◌, ◌+◌, ◌*◌, ◌<◌, ◌≤◌, Bool, true, false, List, if◌then◌else◌, refl, sym, ap, subst, ◌∙◌, arith}
 use Rattle.std.proofs.lemmas.Bool.{false≢true, le-ltb, lt-ltb}
 use Rattle.nvm_base.specs.declared.units.Span.{Span}
-use Rattle.line_device.specs.Device.{Device}
 use Rattle.line_device.specs.Medium.{Medium}
 use Rattle.line_device.specs.Panel.{Outcome, Panel, Runs}
-use Rattle.line_device.specs.Panel.Outcome.{went}
-use Rattle.line_device.proofs.PanelLemmas.{runs-refl, runs_within}
-use Rattle.line_words.specs.declared.interruption.Interruption.{Interruption}
-use Rattle.line_words.specs.Ending.{ended}
 use Rattle.word_log.specs.Changes.{commit_calls, commit_persists}
 use Rattle.nvm_model.specs.Files.{OneFileLeft, on_pages}
 use Rattle.nvm_model.specs.Listing.{change_file, file_name}
-use Rattle.nvm_model.specs.Page.{absent_touched, fill, touches_absent}
+use Rattle.nvm_model.specs.Page.{Page, absent_touched, fill, touches_absent}
 use Rattle.nvm_model.specs.Storage.{File}
 use Rattle.nvm_model.proofs.FillLemmas.{fill-nothing}
 use Rattle.nvm_model.proofs.OneFileLemmas.{left-same}
 use Rattle.nvm_model.proofs.TouchedPageLemmas.{touches_absent-some}
 use Rattle.page_lines.proofs.OthersLemmas.{others-refl}
-use Rattle.page_lines.proofs.ResultLemmas.{on_ok-then}
-use Rattle.file_journal.specs.Object.{JournalState}
+use Rattle.file_journal.specs.Object.{JournalServes, JournalState}
 use Rattle.file_journal.specs.Standing.{EachReadsFiles, FilesStand}
-use Rattle.file_journal.proofs.ServesLemmas.{journal-same}
-use Rattle.file_pages.specs.Calls.{MayWork, WorksOnTables}
+use Rattle.file_journal.specs.Tables.{AreTables, Tables}
 use Rattle.file_pages.specs.Checked.{IsCovered}
 use Rattle.file_pages.specs.Costs.{fill_calls, fill_persists}
 use Rattle.file_pages.specs.Object.{IsFileAt, pages_there, units_of}
-use Rattle.file_pages.specs.Work.{filling}
+use Rattle.file_pages.specs.Work.{FileBecomes, FileIsLeft, filling}
 use Rattle.file_pages.proofs.ListedLemmas.{files-changed}
 use Rattle.file_pages.proofs.PlaceLemmas.{PagesOn}
 use Rattle.file_pages.proofs.WorkLemmas.{reads-left}
@@ -36,8 +29,14 @@ module _ (s j : JournalState) (free : List Bool) (same : j ≡ record s { free =
   pub covered_same : (span : Span) → IsCovered s m inode span → IsCovered j m inode span
   covered_same span covered = subst (λ (t : JournalState). IsCovered t m inode span) (sym same) covered
 
-  pub file_same : (files : List File) (file : File) → IsFileAt s m inode files file → IsFileAt j m inode files file
+  file_same : (files : List File) (file : File) → IsFileAt s m inode files file → IsFileAt j m inode files file
   file_same files file at = subst (λ (t : JournalState). IsFileAt t m inode files file) (sym same) (record { named = at.named; stand = at.stand; found = at.found })
+
+  pub becomes_same : (t : Tables) (new : Medium) (to : List Page → List Page) → FileBecomes j t m new inode to → FileBecomes s t m new inode to
+  becomes_same t new to becomes files file at = subst (λ (k : JournalState). FilesStand k.geo new t (change_file file_name file.name (on_pages to) files)) same (becomes files file (file_same files file at))
+
+  pub left_same : (new : Medium) (may : List Page → List Page → Type 0) → FileIsLeft j m new inode may → FileIsLeft s m new inode may
+  left_same new may left files file at = subst (λ (k : JournalState). EachReadsFiles k.geo new (OneFileLeft file.name may files)) same (left files file (file_same files file at))
 
   pub there_same : pages_there j inode ≡ pages_there s inode
   there_same = ap (λ (t : JournalState). pages_there t inode) same
@@ -52,48 +51,15 @@ some_holes there span n some is more =
     touches_absent-some span.start span.len there some ∙ lt-ltb 0 (absent_touched span.start span.len there) (omega (arith, is, more))
 
 -- where none is touched a fill does nothing
-pub unfilled_works : {D : Type 0} (state : D → Device) (s t : JournalState) (dev : D) (inode : ℕ) (span : Span) (calls persists : ℕ) → t ≡ record s { free = t.free } → MayWork s (state dev) inode
-    → touches_absent span.start span.len (pages_there s inode) ≡ false → WorksOnTables {T = Unit {0}} state s t dev dev (Ok tt) inode (filling span.start span.len) calls persists
-unfilled_works state s t dev inode span calls persists same may none =
-    let m = (state dev).medium in
-    let p = (state dev).panel in
-    subst (λ (j : JournalState). WorksOnTables {T = Unit {0}} state s j dev dev (Ok tt) inode (filling span.start span.len) calls persists) (sym same)
-    (record {
-      ok = λ files file at.
-          files-changed s.geo s.tables may.tables inode file.name at.named m m (λ _. ⊥) (others-refl (λ _. ⊥) m) (λ line is. absurd is) (fill span.start span.len)
-          (λ pages stands. subst (PagesOn s.geo (units_of s.tables inode) m) (sym (fill-nothing span.start span.len pages (ap (touches_absent span.start span.len) stands.there ∙ none))) stands)
-          files at.stand;
-      images = λ files file at. reads-left s m files (OneFileLeft file.name (filling span.start span.len).may files) may.tables may.serves at.stand (left-same file.name _ (λ p. inl refl) files);
-      outside = others-refl _ m;
-      metadata = λ n below. refl;
-      serves = journal-same s (record s { free = t.free }) m refl refl may.serves;
-      tables = may.tables;
-      files = refl;
-      geo = refl;
-      runs = runs_within _ _ calls persists went p p (runs-refl p) (omega arith) (omega arith);
-    })
+module _ (s : JournalState) (m : Medium) (inode : ℕ) (are : AreTables s.geo.fpages s.tables) (span : Span) (none : touches_absent span.start span.len (pages_there s inode) ≡ false) where
+  pub unfilled-files : FileBecomes s s.tables m m inode (fill span.start span.len)
+  unfilled-files files file at =
+      files-changed s.geo s.tables are inode file.name at.named m m (λ _. ⊥) (others-refl (λ _. ⊥) m) (λ line is. absurd is) (fill span.start span.len)
+      (λ pages stands. subst (PagesOn s.geo (units_of s.tables inode) m) (sym (fill-nothing span.start span.len pages (ap (touches_absent span.start span.len) stands.there ∙ none))) stands)
+      files at.stand
 
--- What works on a journal with other free units works on this one.
-pub same_works : {D T : Type 0} (state : D → Device) (s j t : JournalState) (before after : D) (r : Result T Interruption) (inode : ℕ) (span : Span) (few low calls persists : ℕ) → j ≡ record s { free = j.free }
-    → (Runs few low (ended r) (state before).panel (state after).panel → Runs calls persists (ended r) (state before).panel (state after).panel)
-    → WorksOnTables state j t before after r inode (filling span.start span.len) few low → WorksOnTables state s t before after r inode (filling span.start span.len) calls persists
-same_works state s j t before after r inode span few low calls persists same within works =
-    let same_file = file_same s j j.free same (state before).medium inode in
-    let same_geo : WorksOnTables state (record s { free = j.free }) t before after r inode (filling span.start span.len) few low =
-    subst (λ (k : JournalState). WorksOnTables state k t before after r inode (filling span.start span.len) few low) same works in
-    record {
-      ok =
-          on_ok-then r (λ done files file at. subst (λ (k : JournalState). FilesStand k.geo (state after).medium t.tables (change_file file_name file.name (on_pages (fill span.start span.len)) files)) same (done files file (same_file files file at)))
-          works.ok;
-      images = λ files file at. subst (λ (k : JournalState). EachReadsFiles k.geo (state after).medium (OneFileLeft file.name (filling span.start span.len).may files)) same (works.images files file (same_file files file at));
-      outside = same_geo.outside;
-      metadata = same_geo.metadata;
-      serves = same_geo.serves;
-      tables = same_geo.tables;
-      files = same_geo.files;
-      geo = same_geo.geo;
-      runs = within works.runs;
-    }
+  pub unfilled-images : JournalServes s m → FileIsLeft s m m inode (filling span.start span.len).may
+  unfilled-images serves files file at = reads-left s m files (OneFileLeft file.name (filling span.start span.len).may files) are serves at.stand (left-same file.name _ (λ p. inl refl) files)
 
 -- what it costs where some are
 pub fill_runs : (s : JournalState) (inode : ℕ) (span : Span) (n : ℕ) (e : Outcome) (p q : Panel) → n ≡ absent_touched span.start span.len (pages_there s inode) → touches_absent span.start span.len (pages_there s inode) ≡ true

@@ -1,15 +1,11 @@
 -- Holes filled: their units' lines made zeros, and then named by the pages.
-use Rattle.std.proofs.Common.{◌≡◌, ◌⊎◌, inl, inr, ℕ, zero, suc, ◌+◌, ◌*◌, ◌/◌, ◌%◌, ◌<◌, ◌≤◌, ◌||◌, Bool, true, false, is_some, List, [], ◌∷◌, map, Option, Some, None, option_map, Result, Err, length, slice_get, slice_index_or, refl, sym, ap, ap₂, subst, ◌∙◌, arith}
+use Rattle.std.proofs.Common.{◌≡◌, ◌⊎◌, inl, inr, ℕ, zero, suc, ◌+◌, ◌*◌, ◌/◌, ◌%◌, ◌<◌, ◌≤◌, ◌||◌, Bool, true, false, is_some, List, [], ◌∷◌, map, Option, Some, None, option_map, length, slice_get, slice_index_or, refl, sym, ap, ap₂, subst, ◌∙◌, arith}
 use Rattle.std.proofs.lemmas.Bool.{cases_Bool, false≢true}
 use Rattle.std.proofs.lemmas.Option.{get_or_from_slice_get, none-some, same_Some, slice_get-get_or, slice_get-map, slice_get_within}
 use Rattle.std.specs.List.{Contains}
 use Rattle.nvm_base.specs.declared.units.Span.{Span}
 use Rattle.nvm_base.specs.Units as base
-use Rattle.line_device.specs.Device.{Device}
 use Rattle.line_device.specs.Medium.{Medium}
-use Rattle.line_device.specs.Panel.{Runs}
-use Rattle.line_words.specs.declared.interruption.Interruption.{Interruption}
-use Rattle.line_words.specs.Ending.{ended, stop_outcome}
 use Rattle.line_words.specs.Words.{WritesBackOutside}
 use Rattle.word_tables.specs.declared.geometry.Geometry.{Geometry}
 use Rattle.word_tables.specs.Bounds.{IsValid}
@@ -36,9 +32,7 @@ use Rattle.nvm_model.proofs.TouchedPageLemmas.{among_bounds, among_from, touches
 use Rattle.page_lines.specs.Turns.{WritesBackOthers}
 use Rattle.page_lines.proofs.LoopLemmas.{within-touches}
 use Rattle.page_lines.proofs.OthersLemmas.{others-trans}
-use Rattle.page_lines.proofs.ResultLemmas.{on_ok-then}
 use Rattle.file_journal.specs.Area.{IsOfFiles, file_area}
-use Rattle.file_journal.specs.Calls.{Works}
 use Rattle.file_journal.specs.Changes.{switched, unit_for}
 use Rattle.file_journal.specs.Files.{UnitFile, files_of, switched_file, unit_file_name}
 use Rattle.file_journal.specs.Holds.{Holds}
@@ -53,11 +47,10 @@ use Rattle.file_journal.proofs.ReplaceLemmas.{pages_at_most}
 use Rattle.file_journal.proofs.StandingLemmas.{entry_of_unit, files-kept}
 use Rattle.file_journal.proofs.SwitchLemmas.{unit_for_by}
 use Rattle.file_journal.proofs.UnitFileLemmas.{unit_file-switched}
-use Rattle.file_pages.specs.Calls.{WorksOnTables}
 use Rattle.file_pages.specs.Checked.{IsCovered}
 use Rattle.file_pages.specs.Fresh.{AreFresh, IsUnitLine, switch_units}
 use Rattle.file_pages.specs.Object.{IsFileAt, KeepsMarks, unit_place, units_of}
-use Rattle.file_pages.specs.Work.{filling}
+use Rattle.file_pages.specs.Work.{FileBecomes, FileIsLeft, filling}
 use Rattle.file_pages.proofs.ListedLemmas.{files-beside, low, pages_is, that_units}
 use Rattle.file_pages.proofs.PlaceLemmas.{PagesOn, length-units, line_at, place_in, place_is, unit_get, unit_here, unit_on}
 use Rattle.file_pages.proofs.SwitchedLemmas.{fresh_filled, fresh_own, fresh_pages, fresh_switches, switch_listed, unit_for-fresh}
@@ -149,7 +142,7 @@ module _ {s : JournalState} {old : Medium} {inode : ℕ} {span pages : Span} {fr
       vacant_unit (at.0 / 64) p.0 p.1 entry.0 (subst (λ v. IsOn s.tables.pages entry.0 v) (sym same) entry.1)
 
   -- the tables are right afterwards
-  filled-tables : pages.len ≤ 17 → used_pages s.tables.pages + length fresh + 16 ≤ s.geo.fpages → AreTables s.geo.fpages (switched inode fresh s.tables)
+  pub filled-tables : pages.len ≤ 17 → used_pages s.tables.pages + length fresh + 16 ≤ s.geo.fpages → AreTables s.geo.fpages (switched inode fresh s.tables)
   filled-tables few room =
       let filled = fresh_filled s inode pages.start pages.len fresh free taken in
       let slot = slice_index_or s.tables.files inode None in
@@ -164,10 +157,10 @@ module _ {s : JournalState} {old : Medium} {inode : ℕ} {span pages : Span} {fr
   pub cleared-serves : JournalServes s mid
   cleared-serves = lines-serve s old mid (IsUnitLine s.geo (switch_units fresh)) valid unit_lines_in beside serves
 
-  cleared-outside : WritesBackOthers (IsOfFiles s.geo) old mid
+  pub cleared-outside : WritesBackOthers (IsOfFiles s.geo) old mid
   cleared-outside = lines-outside s.geo old mid (IsUnitLine s.geo (switch_units fresh)) unit_lines_in beside
 
-  cleared-marks : KeepsMarks s.geo old mid
+  pub cleared-marks : KeepsMarks s.geo old mid
   cleared-marks = lines-marks s.geo old mid (IsUnitLine s.geo (switch_units fresh)) unit_lines_in beside
 
   pub cleared-good : AreGood old (meta_lines s.geo) → AreGood mid (meta_lines s.geo)
@@ -176,18 +169,16 @@ module _ {s : JournalState} {old : Medium} {inode : ℕ} {span pages : Span} {fr
   cleared-files : (files : List File) → FilesStand s.geo old s.tables files → FilesStand s.geo mid s.tables files
   cleared-files files stand = files-beside s.geo s.tables old mid (IsUnitLine s.geo (switch_units fresh)) beside fresh_apart files stand
 
-  cleared-images : (files : List File) (file : File) → IsFileAt s old inode files file
-      → EachReadsFiles s.geo mid (OneFileLeft file.name (λ was left. (left ≡ was) ⊎ (left ≡ fill span.start span.len was)) files)
+  pub cleared-images : FileIsLeft s old mid inode (filling span.start span.len).may
   cleared-images files file at =
-      reads-left s mid files (OneFileLeft file.name (λ was left. (left ≡ was) ⊎ (left ≡ fill span.start span.len was)) files) are cleared-serves (cleared-files files at.stand)
-      (left-same file.name _ (λ p. inl refl) files)
+      reads-left s mid files (OneFileLeft file.name (filling span.start span.len).may files) are cleared-serves (cleared-files files at.stand) (left-same file.name _ (λ p. inl refl) files)
 
   module _ {new : Medium} (z : WritesBackOutside (IsOf (file_area s.geo)) mid new)
       (zeros : (n line : ℕ) → unit_place s.geo (switch_units fresh) n ≡ Some line → CellStands mid line zero_cell) where
     kept : (n : ℕ) → HasLine s.geo file_pages n → LineKept mid new n
     kept = page_lines-kept s.geo mid new valid z
 
-    filled-outside : WritesBackOthers (IsOfFiles s.geo) old new
+    pub filled-outside : WritesBackOthers (IsOfFiles s.geo) old new
     filled-outside = others-trans (IsOfFiles s.geo) old mid new cleared-outside (record {
       count = z.count;
       bad = λ n _. z.bad n;
@@ -197,7 +188,7 @@ module _ {s : JournalState} {old : Medium} {inode : ℕ} {span pages : Span} {fr
       word_write_back = λ p apart. z.word_write_back p (λ of. apart (area_of_files s.geo p of));
     })
 
-    filled-marks : KeepsMarks s.geo old new
+    pub filled-marks : KeepsMarks s.geo old new
     filled-marks n below = z.bad n ∙ cleared-marks n below
 
     abbrev after : List (Option ℕ)
@@ -341,12 +332,17 @@ module _ {s : JournalState} {old : Medium} {inode : ℕ} {span pages : Span} {fr
           (λ a b has out same stands. stands)
           still)
 
-      filled-images : AreTables s.geo.fpages (switched inode fresh s.tables) → EachReadsTables s.geo new (IsEither s.tables (switched inode fresh s.tables))
-          → EachReadsFiles s.geo new (OneFileLeft file.name (λ was left. (left ≡ was) ⊎ (left ≡ fill span.start span.len was)) files)
-      filled-images right each =
-          either_images s.geo new s.tables (switched inode fresh s.tables) (OneFileLeft file.name (λ was left. (left ≡ was) ⊎ (left ≡ fill span.start span.len was)) files)
+      filled-each : AreTables s.geo.fpages (switched inode fresh s.tables) → EachReadsTables s.geo new (IsEither s.tables (switched inode fresh s.tables)) → EachReadsFiles s.geo new (OneFileLeft file.name (filling span.start span.len).may files)
+      filled-each right each =
+          either_images s.geo new s.tables (switched inode fresh s.tables) (OneFileLeft file.name (filling span.start span.len).may files)
           files (change_file file_name file.name (on_pages (fill span.start span.len)) files) are right still filled-files
           (left-same file.name _ (λ p. inl refl) files) (left-change file.name (fill span.start span.len) _ (λ p. inr refl) files) each
+
+    pub filled-images : AreTables s.geo.fpages (switched inode fresh s.tables) → EachReadsTables s.geo new (IsEither s.tables (switched inode fresh s.tables)) → FileIsLeft s old new inode (filling span.start span.len).may
+    filled-images right each files file at = filled-each files file at right each
+
+    pub filled-becomes : (t : Tables) → t ≡ switched inode fresh s.tables → FileBecomes s t old new inode (fill span.start span.len)
+    filled-becomes t is files file at = subst (λ (u : Tables). FilesStand s.geo new u (change_file file_name file.name (on_pages (fill span.start span.len)) files)) (sym is) (filled-files files file at)
 
     -- lines that are bad now were there, and bad
     pub filled-covered : (next : JournalState) → next.geo ≡ s.geo → next.tables ≡ switched inode fresh s.tables
@@ -389,45 +385,3 @@ module _ {s : JournalState} {old : Medium} {inode : ℕ} {span pages : Span} {fr
             ap (option_map (λ unit. file_line s.geo unit + n % 64)) before ∙ ap (λ l. Some l) (ap (λ w. file_line s.geo w + n % 64) unit ∙ same) in
             let apart : IsUnitLine s.geo (switch_units fresh) line → ⊥ = λ is_fresh. fresh_other v before is_fresh (ap (λ w. file_line s.geo w + n % 64) unit ∙ same) in
             covered n line touched place (sym (beside.bad line apart) ∙ was_bad)
-
--- what clearing those lines alone promises of a fill
-pub cleared_works : {D T : Type 0} (state : D → Device) (s : JournalState) (before mid : D) (inode : ℕ) (span pages : Span) (fresh : List (ℕ × Option ℕ)) (stop : Interruption) (calls persists : ℕ)
-    → AreCleared s (state before).medium inode span pages fresh s.free (state mid).medium → Runs calls persists (stop_outcome stop) (state before).panel (state mid).panel
-    → WorksOnTables {T = T} state s s before mid (Err stop) inode (filling span.start span.len) calls persists
-cleared_works state s before mid inode span pages fresh stop calls persists cleared runs = record {
-  ok = tt;
-  images = cleared-images cleared;
-  outside = cleared-outside cleared;
-  metadata = cleared-marks cleared;
-  serves = tt;
-  tables = tt;
-  files = tt;
-  geo = refl;
-  runs = runs;
-}
-
--- and what naming the units after it does
-pub named_works : {D T : Type 0} (state : D → Device) (s t : JournalState) (before mid after : D) (r : Result T Interruption) (inode : ℕ) (span pages : Span) (fresh : List (ℕ × Option ℕ)) (units words calls persists : ℕ)
-    → AreCleared s (state before).medium inode span pages fresh s.free (state mid).medium
-    → ((n line : ℕ) → unit_place s.geo (switch_units fresh) n ≡ Some line → CellStands (state mid).medium line zero_cell)
-    → pages.len ≤ 17 → used_pages s.tables.pages + length fresh + 16 ≤ s.geo.fpages
-    → Works state s t mid after r (switched inode fresh s.tables) units words → Runs calls persists (ended r) (state before).panel (state after).panel
-    → WorksOnTables state s t before after r inode (filling span.start span.len) calls persists
-named_works state s t before mid after r inode span pages fresh units words calls persists cleared zeros few room works runs =
-    let m = (state after).medium in
-    let right = filled-tables cleared few room in
-    record {
-      ok =
-          on_ok-then r
-          (λ tables files file at.
-          subst (λ (u : Tables). FilesStand s.geo m u (change_file file_name file.name (on_pages (fill span.start span.len)) files)) (sym tables) (filled-files cleared works.outside zeros files file at))
-          works.ok;
-      images = λ files file at. filled-images cleared works.outside zeros files file at right works.images;
-      outside = filled-outside cleared works.outside zeros;
-      metadata = filled-marks cleared works.outside zeros;
-      serves = works.serves;
-      tables = on_ok-then r (λ tables. subst (λ (geo : Geometry). AreTables geo.fpages t.tables) (sym works.object.0) (subst (AreTables s.geo.fpages) (sym tables) right)) works.ok;
-      files = on_ok-then r (λ tables. ap (λ (u : Tables). u.files) tables) works.ok;
-      geo = works.object.0;
-      runs = runs;
-    }

@@ -23,14 +23,13 @@ use Rattle.file_journal.specs.Standing.{EachReadsFiles, FilesStand}
 use Rattle.file_journal.proofs.EachFilesLemmas.{each_files-then}
 use Rattle.file_pages.specs.Calls.{WorksOn, WorksOnTables}
 use Rattle.file_pages.specs.Object.{IsFileAt}
-use Rattle.file_pages.specs.Work.{filling, putting, storing}
+use Rattle.file_pages.specs.Work.{FileIsLeft, filling, putting, storing}
 
 -- the fill alone, interrupted
-filled_reads : (s : JournalState) (m : Medium) (at : ℕ) (bytes : List ℕ) (files : List File) (file : File) → EachReadsFiles s.geo m (OneFileLeft file.name (λ was left. (left ≡ was) ⊎ (left ≡ fill at (length bytes) was)) files)
-    → EachReadsFiles s.geo m (OneFileLeft file.name (MayStore at bytes) files)
-filled_reads s m at bytes files file each =
-    each_files-then s.geo m (OneFileLeft file.name (λ was left. (left ≡ was) ⊎ (left ≡ fill at (length bytes) was)) files) (OneFileLeft file.name (MayStore at bytes) files)
-    (λ xs left. left-then file.name (λ was l. (l ≡ was) ⊎ (l ≡ fill at (length bytes) was)) (MayStore at bytes) (λ p q l. may_store-filled at bytes p q l) files xs left) each
+pub filled_left : (s : JournalState) (old mid : Medium) (inode at : ℕ) (bytes : List ℕ) → FileIsLeft s old mid inode (filling at (length bytes)).may → FileIsLeft s old mid inode (storing at bytes).may
+filled_left s old mid inode at bytes left files file here =
+    each_files-then s.geo mid (OneFileLeft file.name (filling at (length bytes)).may files) (OneFileLeft file.name (MayStore at bytes) files)
+    (λ xs each. left-then file.name (filling at (length bytes)).may (MayStore at bytes) (λ p q l. may_store-filled at bytes p q l) files xs each) (left files file here)
 
 -- a file that was filled, for the bytes to be put
 record IsFilled (s j : JournalState) (old mid : Medium) (inode at : ℕ) (bytes : List ℕ) : Type 0 where
@@ -63,22 +62,8 @@ module _ {s j : JournalState} {old mid : Medium} {inode at : ℕ} {bytes : List 
       (each_files-then j.geo new (OneFileLeft file.name (LineByLine (MayPut at bytes)) (change_file file_name file.name (on_pages filled) files)) (OneFileLeft file.name (MayStore at bytes) files)
       (λ xs left. left-changed file.name filled (LineByLine (MayPut at bytes)) (MayStore at bytes) (λ p q l. inr l) files xs left) (each _ _ (filled_at files file here)))
 
--- A fill that was stopped is a store that was, and one that went is a store once bytes are put.
+-- a fill, and then bytes put
 module _ {D : Type 0} (state : D → Device) (s j : JournalState) (before mid : D) (inode at : ℕ) (bytes : List ℕ) (calls persists more : ℕ) where
-  pub filled_stops : {T : Type 0} (stop : Interruption) → WorksOnTables {T = T} state s j before mid (Err stop) inode (filling at (length bytes)) calls persists
-      → WorksOnTables {T = T} state s j before mid (Err stop) inode (storing at bytes) (more + calls) persists
-  filled_stops stop fills = record {
-    ok = tt;
-    images = λ files file here. filled_reads s (state mid).medium at bytes files file (fills.images files file here);
-    outside = fills.outside;
-    metadata = fills.metadata;
-    serves = tt;
-    tables = tt;
-    files = tt;
-    geo = fills.geo;
-    runs = runs_within _ _ _ _ _ _ _ fills.runs (omega arith) (omega arith);
-  }
-
   pub filled_then : {T U : Type 0} (x : T) (r : Result U Interruption) (after : D) (lines : ℕ → Type 0) → WorksOnTables state s j before mid (Ok x) inode (filling at (length bytes)) calls persists
       → WorksOn state j j mid after r inode (putting at bytes) lines more 0 → WorksOnTables state s j before after r inode (storing at bytes) (more + calls) persists
   filled_then x r after lines fills puts =

@@ -1,5 +1,5 @@
 -- Work on lines of files' pages: the journal goes on serving, and each image reads as the files that are left.
-use Rattle.std.proofs.Common.{Ok, Err, IsErrAnd, ap, ◌≡◌, inr, ℕ, ◌/◌, ◌<◌, Option, Some, Result, OnErr, OnOk, List, refl, sym, subst, ◌∙◌, arith}
+use Rattle.std.proofs.Common.{Ok, Err, IsErrAnd, ap, ◌≡◌, inr, ℕ, ◌/◌, ◌<◌, Some, Result, OnErr, OnOk, List, refl, sym, subst, ◌∙◌, arith}
 use Rattle.line_device.specs.Device.{Device}
 use Rattle.line_device.specs.Medium.{Medium}
 use Rattle.line_device.specs.Panel.{Runs}
@@ -30,7 +30,7 @@ use Rattle.file_journal.proofs.EachFilesLemmas.{each_files-then}
 use Rattle.file_journal.proofs.FileLineLemmas.{page_line_apart, page_line_behind}
 use Rattle.file_journal.proofs.ServesLemmas.{journal-kept, served_files}
 use Rattle.file_pages.specs.Calls.{MayWork, WorksOn}
-use Rattle.file_pages.specs.Object.{IsFileAt, KeepsMarks, PlacesState, file_place, pages_there, unit_place, units_of}
+use Rattle.file_pages.specs.Object.{IsFileAt, KeepsMarks, file_place, pages_there, units_of}
 use Rattle.file_pages.proofs.ListedLemmas.{files-changed, files-left}
 use Rattle.file_pages.proofs.PlaceLemmas.{PagesOn, line_at, located, place_in, units_own}
 
@@ -118,22 +118,15 @@ pub persist_turns : (start len : ℕ) (pages : List Page) → persist start len 
 unfolding persist
 persist_turns start len pages = refl
 
--- what such a work promises, where the lines lie at these places
-module _ {D : Type 0} (state : D → Device) (s : JournalState) (before after : D) (inode start len : ℕ) (l : PlacesState) (lies : l ≡ record { geo = s.geo; units = units_of s.tables inode }) (may : MayWork s (state before) inode)
-    (valid : IsValid s.geo) {T : Type 0} (r : Result T Interruption) (f : ℕ → Cell → Cell) (R : ℕ → Cell → Cell → Type 0) (g : List Page → List Page) where
-  pub turned_works : ((pages : List Page) → g pages ≡ map_from (map_lines f) 0 pages) → ((n : ℕ) (cell : Cell) → R n cell (f n cell)) → (calls persists : (ℕ → Option ℕ) → ℕ)
-      → OnOk r ((n line : ℕ) → unit_place l.geo l.units n ≡ Some line → Turns (f n) line (state before).medium (state after).medium)
-      → OnErr r ((n line : ℕ) → unit_place l.geo l.units n ≡ Some line → MayTurn (R n) line (state before).medium (state after).medium)
-      → WritesBackOthers (IsPlaced (unit_place l.geo l.units) start len) (state before).medium (state after).medium
-      → Runs (calls (unit_place l.geo l.units)) (persists (unit_place l.geo l.units)) (ended r) (state before).panel (state after).panel
-      → WorksOn state s s before after r inode (record { to = g; may = LineByLine R }) (IsPlaced (file_place s inode) start len) (calls (file_place s inode)) (persists (file_place s inode))
-  turned_works is leaves calls persists =
-      subst (λ (l : PlacesState). OnOk r ((n line : ℕ) → unit_place l.geo l.units n ≡ Some line → Turns (f n) line (state before).medium (state after).medium)
-      → OnErr r ((n line : ℕ) → unit_place l.geo l.units n ≡ Some line → MayTurn (R n) line (state before).medium (state after).medium)
-      → WritesBackOthers (IsPlaced (unit_place l.geo l.units) start len) (state before).medium (state after).medium
-      → Runs (calls (unit_place l.geo l.units)) (persists (unit_place l.geo l.units)) (ended r) (state before).panel (state after).panel
-      → WorksOn state s s before after r inode (record { to = g; may = LineByLine R }) (IsPlaced (file_place s inode) start len) (calls (file_place s inode)) (persists (file_place s inode))) (sym lies)
-      (λ done stopped beside runs.
+-- what such a work promises
+module _ {D T : Type 0} (state : D → Device) (s : JournalState) (before after : D) (inode start len : ℕ) (may : MayWork s (state before) inode) (valid : IsValid s.geo) (r : Result T Interruption)
+    (f : ℕ → Cell → Cell) (R : ℕ → Cell → Cell → Type 0) (g : List Page → List Page) (calls persists : ℕ) where
+  pub turned_works : ((pages : List Page) → g pages ≡ map_from (map_lines f) 0 pages) → ((n : ℕ) (cell : Cell) → R n cell (f n cell))
+      → OnOk r ((n line : ℕ) → file_place s inode n ≡ Some line → Turns (f n) line (state before).medium (state after).medium)
+      → OnErr r ((n line : ℕ) → file_place s inode n ≡ Some line → MayTurn (R n) line (state before).medium (state after).medium)
+      → WritesBackOthers (IsPlaced (file_place s inode) start len) (state before).medium (state after).medium → Runs calls persists (ended r) (state before).panel (state after).panel
+      → WorksOn state s s before after r inode (record { to = g; may = LineByLine R }) (IsPlaced (file_place s inode) start len) calls persists
+  turned_works is leaves done stopped beside runs =
       let worked : IsWorked s (state before).medium (state after).medium inode start len = record { valid = valid; are = may.tables; low = may.low; serves = may.serves; beside = beside } in
       record {
         ok = on_ok-then r (turned-files worked f g is) done;
@@ -143,4 +136,4 @@ module _ {D : Type 0} (state : D → Device) (s : JournalState) (before after : 
         metadata = turned-marks worked;
         serves = turned-serves worked;
         runs = runs;
-      })
+      }

@@ -1,4 +1,3 @@
-use Rattle.std.proofs.Common.{sym}
 use Rattle.word_log.proofs.AnswerLemmas.{is_fault}
 use Rattle.file_pages.proofs.FilePages.persist_rest.Goals as goal
 

@@ -1,14 +1,16 @@
-use Rattle.std.proofs.Common.{◌≡◌, ◌+◌, ℕ, Some, length, sym, subst, rules, arith}
-use Rattle.line_device.proofs.PanelLemmas.{runs_then, runs_within}
+use Rattle.std.proofs.Common.{◌≡◌, ℕ, Some, sym, subst, rules, arith}
+use Rattle.line_device.proofs.PanelLemmas.{runs_within}
 use Rattle.page_lines.specs.Turns.{WritesBackOthers}
 use Rattle.page_lines.proofs.ResultLemmas.{on_ok-then}
+use Rattle.word_log.specs.Changes.{commit_calls, commit_persists}
 use Rattle.word_log.proofs.AnswerLemmas.{is_fault}
 use Rattle.word_tables.specs.declared.geometry.Geometry.{Geometry}
 use Rattle.nvm_model.specs.Cell.{CellStands, zero_cell}
+use Rattle.file_journal.specs.Tables.{Tables}
 use Rattle.file_journal.proofs.ReplaceLemmas.{pages_at_most}
 use Rattle.file_pages.specs.Fresh.{AreOwn, IsUnitLine, switch_units}
 use Rattle.file_pages.specs.Object.{unit_place}
-use Rattle.file_pages.proofs.FilledLemmas.{AreCleared, cleared-good, cleared-serves, cleared_works, filled-covered, named_works}
+use Rattle.file_pages.proofs.FilledLemmas.{AreCleared, cleared-good, cleared-images, cleared-marks, cleared-outside, cleared-serves, filled-becomes, filled-covered, filled-images, filled-marks, filled-outside, filled-tables}
 use Rattle.file_pages.proofs.SwitchedLemmas.{fresh_filled, fresh_named, fresh_own, fresh_pages, fresh_switches, unrefused}
 use Rattle.file_pages.proofs.filling.fill_with.Given as given
 use Rattle.file_pages.proofs.filling.fill_with.Goals as goal
@@ -42,7 +44,9 @@ clear_units-requires-clause-own g c =
 
 pub returns-in_err-clear_units-clause-works : goal.returns-in_err-clear_units-clause-works
 returns-in_err-clear_units-clause-works g c =
-    rw (is_fault _ _ c.from_residual.ensures.1) (cleared_works _ _ _ _ _ _ _ _ _ _ _ (cleared g (goal.at.returns-in_err-clear_units-clause-works g c).After-clear_units) (runs_within _ _ _ _ _ _ _ c.in_err-clear_units.ensures.runs (omega arith) (omega arith)))
+    let done = cleared g (goal.at.returns-in_err-clear_units-clause-works g c).After-clear_units in
+    rw (is_fault _ _ c.from_residual.ensures.1)
+    (search (rules, cleared-images done, cleared-outside done, cleared-marks done, runs_within _ _ (64 * length c.args.fresh.now + commit_calls (5 + length c.args.fresh.now)) (commit_persists (5 + length c.args.fresh.now)) _ _ _ c.in_err-clear_units.ensures.runs (omega arith) (omega arith)))
 
 pub name_units-requires-clause-ready : goal.name_units-requires-clause-ready
 name_units-requires-clause-ready g c = record { serves = cleared-serves (cleared g (goal.at.name_units-requires-clause-ready g c).After-clear_units); settled = c.requires.settled; on = search rules }
@@ -65,9 +69,22 @@ name_units-requires-clause-may g c =
 pub returns-clause-works : goal.returns-clause-works
 returns-clause-works g c =
     let here = goal.at.returns-clause-works g c in
-    let works = c.name_units.ensures.works in
-    named_works _ _ _ _ _ _ _ _ _ _ _ _ _ _ _ (cleared g here.After-clear_units) (zeros g here.In_ok-clear_units) c.requires.few c.requires.room works
-    (runs_within _ _ _ _ _ _ _ (runs_then _ _ _ _ _ _ _ _ c.in_ok-clear_units.ensures.runs works.runs) (omega arith) (omega arith))
+    let done = cleared g here.After-clear_units in
+    let zero = zeros g here.In_ok-clear_units in
+    let named = c.name_units.ensures.works in
+    let r = c.name_units.result in
+    let right = filled-tables done c.requires.few c.requires.room in
+    record {
+      ok = on_ok-then r (filled-becomes done named.outside zero c.name_units.new.journal.tables) named.ok;
+      images = filled-images done named.outside zero right named.images;
+      outside = filled-outside done named.outside zero;
+      metadata = filled-marks done named.outside zero;
+      serves = named.serves;
+      tables = on_ok-then r (λ is. rw (named.object.0, is) right) named.ok;
+      files = on_ok-then r (λ is. ap (λ (u : Tables). u.files) is) named.ok;
+      geo = named.object.0;
+      runs = search rules;
+    }
 
 pub returns-clause-covered : goal.returns-clause-covered
 returns-clause-covered g c =

@@ -1,9 +1,7 @@
-use Rattle.std.proofs.Common.{◌*◌, length, arith}
-use Rattle.nvm_base.specs.Units.{units_of}
+use Rattle.std.proofs.Common.{length, arith}
 use Rattle.line_device.proofs.PanelLemmas.{runs_within}
 use Rattle.nvm_model.specs.Cell.{put_cell}
 use Rattle.nvm_model.specs.Interrupted.{MayPut}
-use Rattle.nvm_model.specs.Page.{put}
 use Rattle.page_lines.proofs.CountLemmas.{there_in_most}
 use Rattle.page_lines.proofs.PutLemmas.{may_put-done}
 use Rattle.file_pages.specs.Object.{unit_place}
@@ -18,9 +16,9 @@ pub returns : goal.returns
 returns g c =
     let at = c.args.offset in
     let bytes = c.args.bytes.now in
-    let l = c.of-lines.result in
-    let most = there_in_most (unit_place l.geo l.units) (record { start = at; len = length bytes }) in
+    let here = rw c.of-lines.ensures at c.put_lines.ensures in
+    let most = there_in_most (unit_place c.of-lines.result.geo c.of-lines.result.units) (record { start = at; len = length bytes }) in
     record {
-      works = turned_works _ _ _ _ _ at (length bytes) _ c.of-lines.ensures c.requires.may c.requires.valid _ (put_cell at bytes) (MayPut at bytes) (put at bytes) (put_turns at bytes) (λ n cell. may_put-done at n bytes cell) (λ _. 2 * (units_of 64 (record { start = at; len = length bytes })).len) (λ _. 0)
-          c.put_lines.ensures.ok c.put_lines.ensures.err c.put_lines.ensures.outside (runs_within _ _ _ _ _ _ _ c.put_lines.ensures.runs (omega (arith, most)) (omega arith));
+      works = turned_works _ _ _ _ _ at (length bytes) c.requires.may c.requires.valid _ (put_cell at bytes) (MayPut at bytes) _ _ _ (put_turns at bytes) (λ n cell. may_put-done at n bytes cell) here.ok here.err here.outside
+          (runs_within _ _ _ _ _ _ _ c.put_lines.ensures.runs (omega (arith, most)) (omega arith));
     }

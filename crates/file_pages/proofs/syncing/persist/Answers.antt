@@ -1,8 +1,6 @@
 use Rattle.std.proofs.Common.{inr, refl}
 use Rattle.nvm_model.specs.Cell.{persist_cell}
 use Rattle.nvm_model.specs.Interrupted.{MayPersist}
-use Rattle.nvm_model.specs.Page.{persist}
-use Rattle.page_lines.specs.Placed.{there_in}
 use Rattle.file_pages.proofs.PlaceLemmas.{file_apart}
 use Rattle.file_pages.proofs.WorkLemmas.{persist_turns, turned_works}
 use Rattle.file_pages.proofs.syncing.persist.Goals as goal
@@ -14,7 +12,5 @@ pub returns : goal.returns
 returns g c =
     let at = c.args.span.start in
     let len = c.args.span.len in
-    record {
-      works = turned_works _ _ _ _ _ at len _ c.of-lines.ensures c.requires.may c.requires.valid _ (persist_cell at len) (MayPersist at len) (persist at len) (persist_turns at len) (λ n cell. inr refl) (λ place. there_in place c.args.span) (λ place. there_in place c.args.span)
-          c.persist_lines.ensures.ok c.persist_lines.ensures.err c.persist_lines.ensures.outside c.persist_lines.ensures.runs;
-    }
+    let here = rw c.of-lines.ensures at c.persist_lines.ensures in
+    record { works = turned_works _ _ _ _ _ at len c.requires.may c.requires.valid _ (persist_cell at len) (MayPersist at len) _ _ _ (persist_turns at len) (λ n cell. inr refl) here.ok here.err here.outside here.runs }
