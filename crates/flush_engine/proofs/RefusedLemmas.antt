@@ -23,10 +23,6 @@ pub flushed-err : (f : FlushFault) (r : Result (Unit {0}) FlushFault) → IsErrA
 flushed-err f (Ok x) is same = absurd is
 flushed-err f (Err g) is same = subst (λ e. flushed (Err e) ≡ Err e) (sym is) same
 
-pub flushed-as : (Q : Result (Unit {0}) FlushFault → Type 0) (f : FlushFault) (r : Result (Unit {0}) FlushFault) → IsErrAnd r (λ g. g ≡ f) → flushed (Err f) ≡ Err f → Q (Err f) → Q (flushed r)
-flushed-as Q f (Ok x) is same q = absurd is
-flushed-as Q f (Err g) is same q = subst Q (sym (ap (λ e. flushed (Err e)) is ∙ same)) q
-
 -- nor does one that a device's failure or a loss of power became
 stopped : (f : FlushFault) (stop : Interruption) → flush_says f ≡ Stops stop → flushed (Err f) ≡ Err f
 stopped fault.Range stop is = refl

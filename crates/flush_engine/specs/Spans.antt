@@ -1,15 +1,10 @@
 -- Spans of a file.
-use Rattle.std.specs.Prelude.{◌≡◌, ◌+◌, ◌*◌, ◌≤◌, ℕ, true, List, Option, Some, None, min, sum_by}
+use Rattle.std.specs.Prelude.{◌≡◌, ℕ, true, List, Option, Some, None, min, sum_by}
 use Rattle.nvm_base.specs.declared.units.Span.{Span}
 use Rattle.nvm_model.specs.Touched.{touches_any}
 use Rattle.file_journal.specs.Object.{JournalState}
 use Rattle.file_pages.specs.Costs.{lines_there}
 use Rattle.file_pages.specs.Object.{file_place}
-
--- a span of so many pages, with a byte or more
-pub record IsWithin (pages : ℕ) (span : Span) : Type 0 where
-  pub some : 1 ≤ span.len
-  pub within : span.start + span.len ≤ 4096 * pages
 
 -- a line of the device that a line of the file is at which some span touches
 abbrev pub IsSpanned : JournalState → ℕ → List Span → ℕ → Type 0

@@ -1,15 +1,15 @@
 // When spans are refused. None of this makes a counted call.
-ghost use Rattle.std.specs.Prelude.{◌≡◌, ◌+◌, ◌*◌, ◌==◌, ◌<◌, All, List, OnOk, nat_lt};
+ghost use Rattle.std.specs.Prelude.{◌≡◌, ◌+◌, ◌==◌, ◌<◌, All, OnOk, nat_lt};
 ghost use Rattle.std.specs.List.{list_any};
 ghost use Rattle.nvm_base.specs.declared.units.Span.{Span as Bytes};
 ghost use Rattle.line_device.specs.Panel.Outcome.{went};
 ghost use Rattle.line_words.specs.Told.{Checks, outcome_by};
 ghost use Rattle.inode_table.specs.Slots.{pages_at};
-ghost use Rattle.nvm_model.specs.Storage.{File};
 ghost use Rattle.file_journal.specs.Tables.{AreTables};
-ghost use Rattle.file_pages.specs.Object.{IsFileAt, PagesServe};
+ghost use Rattle.file_pages.specs.Calls.{ChecksFile};
+ghost use Rattle.file_pages.specs.Object.{PagesServe};
+ghost use Rattle.file_pages.specs.Work.{IsSpanOf};
 ghost use Rattle.flush_engine.specs.Refusals.{extents_refusal, flush_refusal, flush_says, flushed};
-ghost use Rattle.flush_engine.specs.Spans.{IsWithin};
 
 use crate::{FlushFault, next_bad};
 use file_pages::{FilePages, ends_past};
@@ -28,12 +28,10 @@ pub fn check<L: Lines>(
 ) -> Result<(), FlushFault>
     requires serves { PagesServe files.now (L.state dev.now).medium }
     requires inode { inode < 64 }
-    ensures refused { (listed : List File) (file : File) → IsFileAt files.now.journal (L.state dev.now).medium inode listed file
-        → Checks flush_says (flush_refusal file.pages spans.now) result }
+    ensures checks { ChecksFile flush_says files.now.journal (L.state dev.now).medium result inode
+        (λ pages. flush_refusal pages spans.now) }
     ensures verify { flushed result ≡ result }
-    ensures went { outcome_by flush_says result ≡ went }
-    ensures within { OnOk result (All (IsWithin (pages_at files.now.journal.tables.files inode)) spans.now) }
-    ensures tables { AreTables files.now.journal.geo.fpages files.now.journal.tables }
+    ensures within { OnOk result (All (IsSpanOf (pages_at files.now.journal.tables.files inode)) spans.now) }
 {
     check_extents(files, inode, spans)?;
     if spans.is_empty() || spans.len() > MOST_SPANS {
@@ -51,7 +49,7 @@ fn check_extents(files: &FilePages, inode: u64, spans: &[Span]) -> Result<(), Fl
     ensures refused { Checks flush_says (extents_refusal (pages_at files.now.journal.tables.files inode) spans.now) result }
     ensures verify { flushed result ≡ result }
     ensures went { outcome_by flush_says result ≡ went }
-    ensures within { OnOk result (All (IsWithin (pages_at files.now.journal.tables.files inode)) spans.now) }
+    ensures within { OnOk result (All (IsSpanOf (pages_at files.now.journal.tables.files inode)) spans.now) }
     ensures tables { AreTables files.now.journal.geo.fpages files.now.journal.tables }
 {
     if is_one_past(PAGE * files.journal().pages(inode), spans) {

@@ -1,10 +1,10 @@
 // Bad lines that spans touch. None of this makes a counted call.
-ghost use Rattle.std.specs.Prelude.{◌≡◌, ◌^◌, ◌<◌, All, IfSome, List};
+ghost use Rattle.std.specs.Prelude.{◌≡◌, ◌^◌, ◌<◌, All, IfSome};
 ghost use Rattle.inode_table.specs.Slots.{pages_at};
-ghost use Rattle.nvm_model.specs.Storage.{File};
 ghost use Rattle.nvm_model.specs.Touched.{next_bad_touched};
-ghost use Rattle.file_pages.specs.Object.{IsFileAt, PagesServe};
-ghost use Rattle.flush_engine.specs.Spans.{IsWithin, lower_of};
+ghost use Rattle.file_pages.specs.Object.{PagesServe};
+ghost use Rattle.file_pages.specs.Work.{IfFile, IsSpanOf};
+ghost use Rattle.flush_engine.specs.Spans.{lower_of};
 
 use file_pages::FilePages;
 use line_device::Lines;
@@ -21,9 +21,8 @@ pub fn next_bad<L: Lines>(
 ) -> Option<u64>
     requires serves { PagesServe files.now (L.state dev.now).medium }
     requires inode { inode < 64 }
-    requires within { All (IsWithin (pages_at files.now.journal.tables.files inode)) spans.now }
-    ensures next { (listed : List File) (file : File) → IsFileAt files.now.journal (L.state dev.now).medium inode listed file
-        → result ≡ next_bad_touched spans.now file.pages from }
+    requires within { All (IsSpanOf (pages_at files.now.journal.tables.files inode)) spans.now }
+    ensures next { IfFile files.now.journal (L.state dev.now).medium inode (λ pages. result ≡ next_bad_touched spans.now pages from) }
     ensures below { IfSome result (λ n. n < 2 ^ 14) }
 {
     let mut lowest = None;

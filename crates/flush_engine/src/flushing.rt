@@ -1,21 +1,14 @@
 // Several spans made durable.
-ghost use Rattle.std.specs.Prelude.{◌≡◌, ◌<◌, All, IsTrue, List, OnOk};
-ghost use Rattle.line_device.specs.Panel.{Runs};
+ghost use Rattle.std.specs.Prelude.{◌≡◌, ◌<◌, All, OnOk};
 ghost use Rattle.line_words.specs.Ending.{ended};
-ghost use Rattle.line_words.specs.Told.{Answers, OnRefused, OnWorked, is_done, outcome_by};
+ghost use Rattle.line_words.specs.Told.{is_done};
 ghost use Rattle.inode_table.specs.Slots.{pages_at};
-ghost use Rattle.nvm_model.specs.Files.{OneFileLeft, on_pages};
-ghost use Rattle.nvm_model.specs.Interrupted.{MaySyncAll};
-ghost use Rattle.nvm_model.specs.Listing.{change_file, file_name};
-ghost use Rattle.nvm_model.specs.Storage.{File};
-ghost use Rattle.nvm_model.specs.Touched.{persist_spans};
-ghost use Rattle.page_lines.specs.Turns.{WritesBackOthers};
-ghost use Rattle.file_journal.specs.Area.{IsOfFiles};
-ghost use Rattle.file_journal.specs.Standing.{EachReadsFiles, FilesStand};
 ghost use Rattle.file_journal.specs.Tables.{AreTables};
-ghost use Rattle.file_pages.specs.Object.{IsFileAt, KeepsMarks, PagesServe, is_settled};
-ghost use Rattle.flush_engine.specs.Refusals.{flush_refusal, flush_says, flushed};
-ghost use Rattle.flush_engine.specs.Spans.{IsSpanned, IsWithin, lines_in};
+ghost use Rattle.file_pages.specs.Calls.{AreReady, WorksOn};
+ghost use Rattle.file_pages.specs.Work.{IsSpanOf};
+ghost use Rattle.flush_engine.specs.Calls.{Flushes, flushing};
+ghost use Rattle.flush_engine.specs.Refusals.{flushed};
+ghost use Rattle.flush_engine.specs.Spans.{IsSpanned, lines_in};
 
 use crate::FlushFault;
 use crate::checks::check;
@@ -32,28 +25,11 @@ pub fn flush<L: Lines>(
     inode: u64,
     spans: &[Span],
 ) -> Result<(), FlushFault>
-    requires serves { PagesServe files.old (L.state dev.old).medium }
-    requires settled { IsTrue (is_settled files.old) }
-    requires on { IsTrue (L.state dev.old).panel.power }
+    requires ready { AreReady files.old (L.state dev.old) }
     requires inode { inode < 64 }
-    ensures refused { (listed : List File) (file : File) → IsFileAt files.old.journal (L.state dev.old).medium inode listed file
-        → Answers flush_says (flush_refusal file.pages spans.now) result }
-    ensures untouched { OnRefused flush_says result ((files.new ≡ files.old) × (dev.new ≡ dev.old)) }
-    ensures ok { OnOk result ((listed : List File) (file : File) → IsFileAt files.old.journal (L.state dev.old).medium inode listed file
-        → FilesStand files.old.journal.geo (L.state dev.new).medium files.old.journal.tables
-        (change_file file_name file.name (on_pages (persist_spans spans.now)) listed)) }
+    ensures flushes { Flushes L.state files.old files.new dev.old dev.new result result inode spans.now }
     ensures verify { flushed result ≡ result }
-    ensures images { OnWorked flush_says result ((listed : List File) (file : File)
-        → IsFileAt files.old.journal (L.state dev.old).medium inode listed file
-        → EachReadsFiles files.old.journal.geo (L.state dev.new).medium (OneFileLeft file.name (MaySyncAll spans.now) listed)) }
-    ensures beside { WritesBackOthers (IsSpanned files.old.journal inode spans.now) (L.state dev.old).medium (L.state dev.new).medium }
-    ensures outside { WritesBackOthers (IsOfFiles files.old.journal.geo) (L.state dev.old).medium (L.state dev.new).medium }
-    ensures metadata { KeepsMarks files.old.journal.geo (L.state dev.old).medium (L.state dev.new).medium }
-    ensures serves { PagesServe files.new (L.state dev.new).medium }
-    ensures object { (files.new.journal ≡ files.old.journal) × (files.new.settled ≡ is_done (outcome_by flush_says result)) }
-    ensures within { OnOk result (All (IsWithin (pages_at files.old.journal.tables.files inode)) spans.now) }
-    ensures runs { let lines = lines_in files.old.journal inode spans.now in
-        Runs lines lines (outcome_by flush_says result) (L.state dev.old).panel (L.state dev.new).panel }
+    ensures within { OnOk result (All (IsSpanOf (pages_at files.old.journal.tables.files inode)) spans.now) }
 {
     check(dev, files, inode, spans)?;
     persist_all(dev, files, inode, spans)?;
@@ -67,24 +43,14 @@ fn persist_all<L: Lines>(
     inode: u64,
     spans: &[Span],
 ) -> Result<(), Interruption>
-    requires serves { PagesServe files.old (L.state dev.old).medium }
-    requires settled { IsTrue (is_settled files.old) }
-    requires on { IsTrue (L.state dev.old).panel.power }
+    requires ready { AreReady files.old (L.state dev.old) }
     requires inode { inode < 64 }
     requires tables { AreTables files.old.journal.geo.fpages files.old.journal.tables }
-    requires within { All (IsWithin (pages_at files.old.journal.tables.files inode)) spans.now }
-    ensures ok { OnOk result ((listed : List File) (file : File) → IsFileAt files.old.journal (L.state dev.old).medium inode listed file
-        → FilesStand files.old.journal.geo (L.state dev.new).medium files.old.journal.tables
-        (change_file file_name file.name (on_pages (persist_spans spans.now)) listed)) }
-    ensures images { (listed : List File) (file : File) → IsFileAt files.old.journal (L.state dev.old).medium inode listed file
-        → EachReadsFiles files.old.journal.geo (L.state dev.new).medium (OneFileLeft file.name (MaySyncAll spans.now) listed) }
-    ensures beside { WritesBackOthers (IsSpanned files.old.journal inode spans.now) (L.state dev.old).medium (L.state dev.new).medium }
-    ensures outside { WritesBackOthers (IsOfFiles files.old.journal.geo) (L.state dev.old).medium (L.state dev.new).medium }
-    ensures metadata { KeepsMarks files.old.journal.geo (L.state dev.old).medium (L.state dev.new).medium }
-    ensures serves { PagesServe files.new (L.state dev.new).medium }
+    requires within { All (IsSpanOf (pages_at files.old.journal.tables.files inode)) spans.now }
+    ensures works { let lines = lines_in files.old.journal inode spans.now in
+        WorksOn L.state files.old.journal files.new.journal dev.old dev.new result inode (flushing spans.now)
+        (IsSpanned files.old.journal inode spans.now) lines lines }
     ensures object { (files.new.journal ≡ files.old.journal) × (files.new.settled ≡ is_done (ended result)) }
-    ensures runs { let lines = lines_in files.old.journal inode spans.now in
-        Runs lines lines (ended result) (L.state dev.old).panel (L.state dev.new).panel }
 {
     for span in spans {
         files.persist_rest(dev, inode, *span)?;

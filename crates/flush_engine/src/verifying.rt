@@ -1,19 +1,11 @@
 // Several spans made durable, and looked at again.
-ghost use Rattle.std.specs.Prelude.{◌≡◌, ◌<◌, All, IsTrue, List, OnOk};
-ghost use Rattle.line_device.specs.Panel.{Runs};
-ghost use Rattle.line_words.specs.Told.{Answers, OnRefused, OnWorked, is_done, outcome_by};
+ghost use Rattle.std.specs.Prelude.{◌≡◌, ◌<◌, All, OnOk};
 ghost use Rattle.inode_table.specs.Slots.{pages_at};
-ghost use Rattle.nvm_model.specs.Files.{OneFileLeft, on_pages};
-ghost use Rattle.nvm_model.specs.Interrupted.{MaySyncAll};
-ghost use Rattle.nvm_model.specs.Listing.{change_file, file_name};
-ghost use Rattle.nvm_model.specs.Storage.{File};
 ghost use Rattle.nvm_model.specs.Touched.{next_bad_touched, persist_spans};
-ghost use Rattle.page_lines.specs.Turns.{WritesBackOthers};
-ghost use Rattle.file_journal.specs.Area.{IsOfFiles};
-ghost use Rattle.file_journal.specs.Standing.{EachReadsFiles, FilesStand};
-ghost use Rattle.file_pages.specs.Object.{IsFileAt, KeepsMarks, PagesServe, is_settled};
-ghost use Rattle.flush_engine.specs.Refusals.{flush_refusal, flush_says, flushed, verified};
-ghost use Rattle.flush_engine.specs.Spans.{IsSpanned, IsWithin, lines_in};
+ghost use Rattle.file_pages.specs.Calls.{AreReady};
+ghost use Rattle.file_pages.specs.Work.{IfFile, IsSpanOf};
+ghost use Rattle.flush_engine.specs.Calls.{Flushes};
+ghost use Rattle.flush_engine.specs.Refusals.{flushed, verified};
 
 use crate::{FlushFault, flush, next_bad};
 use file_pages::FilePages;
@@ -27,29 +19,12 @@ pub fn flush_verify<L: Lines>(
     inode: u64,
     spans: &[Span],
 ) -> Result<(), FlushFault>
-    requires serves { PagesServe files.old (L.state dev.old).medium }
-    requires settled { IsTrue (is_settled files.old) }
-    requires on { IsTrue (L.state dev.old).panel.power }
+    requires ready { AreReady files.old (L.state dev.old) }
     requires inode { inode < 64 }
-    ensures refused { (listed : List File) (file : File) → IsFileAt files.old.journal (L.state dev.old).medium inode listed file
-        → Answers flush_says (flush_refusal file.pages spans.now) (flushed result) }
-    ensures untouched { OnRefused flush_says (flushed result) ((files.new ≡ files.old) × (dev.new ≡ dev.old)) }
-    ensures ok { OnOk (flushed result) ((listed : List File) (file : File) → IsFileAt files.old.journal (L.state dev.old).medium inode listed file
-        → FilesStand files.old.journal.geo (L.state dev.new).medium files.old.journal.tables
-        (change_file file_name file.name (on_pages (persist_spans spans.now)) listed)) }
-    ensures verify { OnOk (flushed result) ((listed : List File) (file : File) → IsFileAt files.old.journal (L.state dev.old).medium inode listed file
-        → result ≡ verified (next_bad_touched spans.now (persist_spans spans.now file.pages) 0)) }
-    ensures images { OnWorked flush_says (flushed result) ((listed : List File) (file : File)
-        → IsFileAt files.old.journal (L.state dev.old).medium inode listed file
-        → EachReadsFiles files.old.journal.geo (L.state dev.new).medium (OneFileLeft file.name (MaySyncAll spans.now) listed)) }
-    ensures beside { WritesBackOthers (IsSpanned files.old.journal inode spans.now) (L.state dev.old).medium (L.state dev.new).medium }
-    ensures outside { WritesBackOthers (IsOfFiles files.old.journal.geo) (L.state dev.old).medium (L.state dev.new).medium }
-    ensures metadata { KeepsMarks files.old.journal.geo (L.state dev.old).medium (L.state dev.new).medium }
-    ensures serves { PagesServe files.new (L.state dev.new).medium }
-    ensures object { (files.new.journal ≡ files.old.journal) × (files.new.settled ≡ is_done (outcome_by flush_says result)) }
-    ensures within { OnOk (flushed result) (All (IsWithin (pages_at files.old.journal.tables.files inode)) spans.now) }
-    ensures runs { let lines = lines_in files.old.journal inode spans.now in
-        Runs lines lines (outcome_by flush_says result) (L.state dev.old).panel (L.state dev.new).panel }
+    ensures flushes { Flushes L.state files.old files.new dev.old dev.new (flushed result) result inode spans.now }
+    ensures verify { OnOk (flushed result) (IfFile files.old.journal (L.state dev.old).medium inode (λ pages.
+        result ≡ verified (next_bad_touched spans.now (persist_spans spans.now pages) 0))) }
+    ensures within { OnOk (flushed result) (All (IsSpanOf (pages_at files.old.journal.tables.files inode)) spans.now) }
 {
     flush(dev, files, inode, spans)?;
     match next_bad(dev, files, inode, spans, 0) {
