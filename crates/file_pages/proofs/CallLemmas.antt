@@ -84,16 +84,17 @@ module _ {D T U E R : Type 0} (state : D → Device) (says : E → Told R) (s : 
         runs = runs calls calls;
       })
 
-  pub refused_loads : (calls : ℕ) → Loads state says s s dev dev result calls
-  refused_loads calls =
-      subst (λ (r : Result T E). Loads state says s s dev dev r calls) (sym (is_fault result fault is))
-      (record {
-        untouched = λ _. (refl, refl);
-        lines = write_back-refl _;
-        serves = ready.serves;
-        object = (refl, (and_parts s.settled s.journal.settled ready.settled).0 ∙ sym (ap is_done checks.went));
-        runs = runs calls 0;
-      })
+-- One that only loads does nothing where it goes no further.
+pub idle_loads : {D T E R : Type 0} (state : D → Device) (says : E → Told R) (s : PagesState) (dev : D) (result : Result T E) (calls : ℕ) → outcome_by says result ≡ went → AreReady s (state dev) → Loads state says s s dev dev result calls
+idle_loads state says s dev result calls is ready =
+    let panel = (state dev).panel in
+    record {
+      untouched = on_refused says result (refl, refl);
+      lines = write_back-refl _;
+      serves = ready.serves;
+      object = (refl, (and_parts s.settled s.journal.settled ready.settled).0 ∙ sym (ap is_done is));
+      runs = subst (λ o. Runs calls 0 o panel panel) (sym is) (runs_within _ _ calls 0 went _ _ (runs-refl panel) (omega arith) (omega arith));
+    }
 
 -- One that passes the test is not refused.
 module _ {U E R : Type 0} (says : E → Told R) (s : JournalState) (m : Medium) (inode : ℕ) (why : List Page → Option R) (u : U) (checks : ChecksFile {T = U} says s m (Ok u) inode why) where

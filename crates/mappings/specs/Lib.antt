@@ -4,3 +4,4 @@ pub mod KeptLends
 pub mod Lends
 pub mod Refusals
 pub mod Costs
+pub mod Calls

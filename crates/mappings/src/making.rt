@@ -1,22 +1,21 @@
 // Mappings made.
-ghost use Rattle.std.specs.Prelude.{◌≡◌, ◌+◌, ◌*◌, ◌<◌, ◌≤◌, ◌++◌, ◌∷◌, [], ◌≢◌, Err, IfErr, IfOk, IsOk, IsTrue, List, None, OnErr, OnOk, Some, false, if◌then◌else◌, length, true};
-ghost use Rattle.line_device.specs.Medium.{WritesBack};
-ghost use Rattle.line_device.specs.Panel.{Runs};
+ghost use Rattle.std.specs.Prelude.{◌≡◌, ◌+◌, ◌<◌, ◌≤◌, ◌++◌, ◌∷◌, [], ◌≢◌, Err, IfErr, IfOk, IsOk, List, None, OnErr, OnOk, Some, false, true};
 ghost use Rattle.line_device.specs.Panel.Outcome.{went};
-ghost use Rattle.line_words.specs.Told.{Answers, Checks, OnRefused, is_done, outcome_by};
+ghost use Rattle.line_words.specs.Told.{Answers, Checks, outcome_by};
 ghost use Rattle.inode_table.specs.Slots.{inode_of, pages_at};
 ghost use Rattle.nvm_base.specs.declared.files.Kind.TheVariants.{Private};
 ghost use Rattle.nvm_model.specs.Listing.{file_name, file_of};
 ghost use Rattle.nvm_model.specs.Mappings.{is_full, is_shared, new_mapping};
-ghost use Rattle.nvm_model.specs.Page.{look};
 ghost use Rattle.nvm_model.specs.Storage.{File};
 ghost use Rattle.file_journal.specs.Standing.{FilesStand};
 ghost use Rattle.file_journal.specs.Tables.{AreTables};
-ghost use Rattle.file_pages.specs.Object.{IsFileAt, PagesServe, is_settled};
+ghost use Rattle.file_pages.specs.Calls.{AreReady, Loads};
+ghost use Rattle.file_pages.specs.Work.{IsSpanOf};
 ghost use Rattle.indexmap.specs.IndexMap.{spare};
+ghost use Rattle.mappings.specs.Calls.{Copies};
 ghost use Rattle.mappings.specs.Costs.{map_calls};
-ghost use Rattle.mappings.specs.Object.{HandlesRise, IsInReach, with_mapping};
-ghost use Rattle.mappings.specs.Refusals.{copy_refusal, early_refusal, inode_refusal, extent_refusal, map_refusal, map_says};
+ghost use Rattle.mappings.specs.Object.{HandlesRise, with_mapping};
+ghost use Rattle.mappings.specs.Refusals.{early_refusal, extent_refusal, inode_refusal, map_refusal, map_says};
 ghost use Rattle.mappings.specs.Table.{listed, mapping_under};
 
 use crate::mapping::Mapping;
@@ -43,13 +42,10 @@ impl Mappings {
         span: Span,
         kind: Kind,
     ) -> Result<u64, MapFault>
-        requires serves { PagesServe files.old (L.state dev.old).medium }
-        requires settled { IsTrue (is_settled files.old) }
-        requires on { IsTrue (L.state dev.old).panel.power }
+        requires ready { AreReady files.old (L.state dev.old) }
         ensures refused { (listed : List File)
             → FilesStand files.old.journal.geo (L.state dev.old).medium files.old.journal.tables listed
             → result ≢ Err MapFault.Memory → Answers map_says (map_refusal self.old listed name.now span kind) result }
-        ensures untouched { OnRefused map_says result ((files.new ≡ files.old) × (dev.new ≡ dev.old)) }
         ensures memory { result ≡ Err MapFault.Memory → (files.new ≡ files.old) × (dev.new ≡ dev.old)
             × (early_refusal self.old files.old.journal.tables name.now span ≡ None) }
         ensures ok { OnOk result ((listed : List File) (file : File)
@@ -58,10 +54,7 @@ impl Mappings {
             → self.new ≡ with_mapping (new_mapping self.old.next name.now span kind file.pages) self.old) }
         ensures handle { IfOk result (λ handle. handle ≡ self.old.next) }
         ensures err { OnErr result (self.new ≡ self.old) }
-        ensures lines { WritesBack (L.state dev.old).medium (L.state dev.new).medium }
-        ensures serves { PagesServe files.new (L.state dev.new).medium }
-        ensures object { (files.new.journal ≡ files.old.journal) × (files.new.settled ≡ is_done (outcome_by map_says result)) }
-        ensures runs { Runs (map_calls kind span) 0 (outcome_by map_says result) (L.state dev.old).panel (L.state dev.new).panel }
+        ensures loads { Loads L.state map_says files.old files.new dev.old dev.new result (map_calls kind span) }
         ensures shown { is_shared kind ≡ true → outcome_by map_says result ≡ went }
     {
         let inode = find(files, name)?;
@@ -85,8 +78,7 @@ impl Mappings {
         ensures refused { Checks map_says (inode_refusal self.now files.now.journal.tables (Some inode) span) result }
         ensures went { outcome_by map_says result ≡ went }
         ensures tables { AreTables files.now.journal.geo.fpages files.now.journal.tables }
-        ensures some { OnOk result (1 ≤ span.len) }
-        ensures within { OnOk result (span.start + span.len ≤ 4096 * pages_at files.now.journal.tables.files inode) }
+        ensures bytes { OnOk result (IsSpanOf (pages_at files.now.journal.tables.files inode) span) }
         ensures room { OnOk result (is_full self.now.mappings self.now.next ≡ false) }
     {
         check_span(PAGE * files.journal().pages(inode), span)?;
@@ -131,24 +123,12 @@ fn copied<L: Lines>(
     span: Span,
     kind: Kind,
 ) -> Result<Bytes, MapFault>
-    requires serves { PagesServe files.old (L.state dev.old).medium }
-    requires settled { IsTrue (is_settled files.old) }
-    requires on { IsTrue (L.state dev.old).panel.power }
+    requires ready { AreReady files.old (L.state dev.old) }
     requires tables { AreTables files.old.journal.geo.fpages files.old.journal.tables }
     requires inode { inode < 64 }
-    requires some { 1 ≤ span.len }
-    requires within { span.start + span.len ≤ 4096 * pages_at files.old.journal.tables.files inode }
-    ensures refused { (listed : List File) (file : File) → IsFileAt files.old.journal (L.state dev.old).medium inode listed file
-        → result ≢ Err MapFault.Memory → Answers map_says (copy_refusal kind file.pages span) result }
-    ensures untouched { OnRefused map_says result ((files.new ≡ files.old) × (dev.new ≡ dev.old)) }
-    ensures memory { result ≡ Err MapFault.Memory → (files.new ≡ files.old) × (dev.new ≡ dev.old) }
-    ensures ok { IfOk result (λ copy. (listed : List File) (file : File) → IsFileAt files.old.journal (L.state dev.old).medium inode listed file
-        → copy.items ≡ (if is_shared kind then [] else look file.pages span.start span.len)) }
-    ensures size { IfOk result (λ copy. length copy.items ≡ (if is_shared kind then 0 else span.len)) }
-    ensures lines { WritesBack (L.state dev.old).medium (L.state dev.new).medium }
-    ensures serves { PagesServe files.new (L.state dev.new).medium }
-    ensures object { (files.new.journal ≡ files.old.journal) × (files.new.settled ≡ is_done (outcome_by map_says result)) }
-    ensures runs { Runs (map_calls kind span) 0 (outcome_by map_says result) (L.state dev.old).panel (L.state dev.new).panel }
+    requires bytes { IsSpanOf (pages_at files.old.journal.tables.files inode) span }
+    ensures copies { Copies L.state files.old files.new dev.old dev.new result inode kind span }
+    ensures loads { Loads L.state map_says files.old files.new dev.old dev.new result (map_calls kind span) }
     ensures shown { is_shared kind ≡ true → IsOk result }
 {
     match kind {
@@ -165,24 +145,12 @@ fn loaded<L: Lines>(
     inode: u64,
     span: Span,
 ) -> Result<Bytes, MapFault>
-    requires serves { PagesServe files.old (L.state dev.old).medium }
-    requires settled { IsTrue (is_settled files.old) }
-    requires on { IsTrue (L.state dev.old).panel.power }
+    requires ready { AreReady files.old (L.state dev.old) }
     requires tables { AreTables files.old.journal.geo.fpages files.old.journal.tables }
     requires inode { inode < 64 }
-    requires some { 1 ≤ span.len }
-    requires within { span.start + span.len ≤ 4096 * pages_at files.old.journal.tables.files inode }
-    ensures refused { (listed : List File) (file : File) → IsFileAt files.old.journal (L.state dev.old).medium inode listed file
-        → result ≢ Err MapFault.Memory → Answers map_says (copy_refusal Private file.pages span) result }
-    ensures untouched { OnRefused map_says result ((files.new ≡ files.old) × (dev.new ≡ dev.old)) }
-    ensures memory { result ≡ Err MapFault.Memory → (files.new ≡ files.old) × (dev.new ≡ dev.old) }
-    ensures ok { IfOk result (λ copy. (listed : List File) (file : File) → IsFileAt files.old.journal (L.state dev.old).medium inode listed file
-        → copy.items ≡ look file.pages span.start span.len) }
-    ensures size { IfOk result (λ copy. length copy.items ≡ span.len) }
-    ensures lines { WritesBack (L.state dev.old).medium (L.state dev.new).medium }
-    ensures serves { PagesServe files.new (L.state dev.new).medium }
-    ensures object { (files.new.journal ≡ files.old.journal) × (files.new.settled ≡ is_done (outcome_by map_says result)) }
-    ensures runs { Runs (map_calls Private span) 0 (outcome_by map_says result) (L.state dev.old).panel (L.state dev.new).panel }
+    requires bytes { IsSpanOf (pages_at files.old.journal.tables.files inode) span }
+    ensures copies { Copies L.state files.old files.new dev.old dev.new result inode Private span }
+    ensures loads { Loads L.state map_says files.old files.new dev.old dev.new result (map_calls Private span) }
 {
     let mut copy = Bytes::new(alloc);
     copy.repeat(0, span.len)?;

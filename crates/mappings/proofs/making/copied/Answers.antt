@@ -1,5 +1,6 @@
-use Rattle.line_device.proofs.WriteBackLemmas.{write_back-refl}
+use Rattle.std.proofs.Common.{refl}
+use Rattle.file_pages.proofs.CallLemmas.{idle_loads}
 use Rattle.mappings.proofs.making.copied.Goals as goal
 
-pub returns-in-Shared-clause-lines : goal.returns-in-Shared-clause-lines
-returns-in-Shared-clause-lines g c = write_back-refl _
+pub returns-in-Shared-clause-loads : goal.returns-in-Shared-clause-loads
+returns-in-Shared-clause-loads g c = idle_loads _ _ _ _ _ _ refl c.requires.ready
