@@ -13,6 +13,7 @@ pub mod NamedFileLemmas
 pub mod EntryLemmas
 pub mod MountLemmas
 pub mod ReplaceLemmas
+pub mod RunLemmas
 pub mod StandingLemmas
 pub mod EachFilesLemmas
 pub mod ServesLemmas
