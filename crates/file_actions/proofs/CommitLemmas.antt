@@ -32,7 +32,9 @@ use Rattle.file_pages.specs.Object.{IsFileAt, PagesState, pages_there, units_of}
 use Rattle.file_pages.proofs.PlaceLemmas.{length-units}
 use Rattle.file_pages.proofs.SwitchedLemmas.{all_counted, unrefused}
 use Rattle.file_actions.specs.Checked.{AreWritable}
-use Rattle.file_actions.specs.Made.{AreAsBefore, AreMade, AreWritten, holes_below}
+use Rattle.file_journal.specs.Calls.{CanSwitch}
+use Rattle.file_pages.specs.Calls.{AreAsBefore, MaySwitch}
+use Rattle.file_actions.specs.Made.{AreMade, AreWritten, holes_below}
 use Rattle.file_actions.specs.Refusals.{holes_touched}
 use Rattle.file_actions.specs.Rewriting.{rewritten}
 use Rattle.file_actions.proofs.RewrittenLemmas.{rewritten-files, rewritten-images}
@@ -72,7 +74,7 @@ pub record IsMade (a b : PagesState) (inode : ℕ) (ranges : List Span) (bytes :
   pub are : AreTables a.journal.geo.fpages a.journal.tables
   pub low : inode < 64
   pub writable : AreWritable a.journal old inode ranges
-  pub before : AreAsBefore a old b mid
+  pub before : AreAsBefore a.journal b.journal old mid
   pub made : AreMade a.journal inode ranges (pages_at a.journal.tables.files inode) items b.journal.free
   pub written : AreWritten a.journal old inode ranges bytes mid items
 
@@ -80,12 +82,7 @@ module _ {a b : PagesState} {inode : ℕ} {ranges : List Span} {bytes : List ℕ
   few : length items ≤ 16
   few = omega (arith, is.made.number, is.writable.together.few)
 
-  pub commit-switches : AreSwitches b.journal.geo.fpages slice
-  commit-switches =
-      subst (λ (g : Geometry). AreSwitches g.fpages slice) (sym is.before.geo)
-      (subst (λ (xs : List (ℕ × Option ℕ)). AreSwitches a.journal.geo.fpages xs) (sym is.same) (made_switches a.journal inode ranges items b.journal.free is.are is.low is.made few))
-
-  pub commit-unrefused : switch_refusal b.journal mid inode slice ≡ None
+  commit-unrefused : switch_refusal b.journal mid inode slice ≡ None
   commit-unrefused =
       let room : used_pages a.journal.tables.pages + filled_holes a.journal.tables inode items + 16 ≤ a.journal.geo.fpages =
       omega (arith, is.writable.room, made_filled a.journal inode ranges items b.journal.free is.are is.low is.made) in
@@ -94,6 +91,19 @@ module _ {a b : PagesState} {inode : ℕ} {ranges : List Span} {bytes : List ℕ
       (subst (λ (t : Tables). used_pages t.pages + filled_holes t inode slice + 16 ≤ a.journal.geo.fpages) (sym is.before.tables)
       (subst (λ (xs : List (ℕ × Option ℕ)). used_pages a.journal.tables.pages + filled_holes a.journal.tables inode xs + 16 ≤ a.journal.geo.fpages) (sym is.same) room)))
       (subst (λ (g : Geometry). AreGood mid (meta_lines g)) (sym is.before.geo) (λ n below. is.before.metadata n below ∙ is.writable.good n below))
+
+  pub may_switch : MaySwitch b.journal mid inode slice
+  may_switch = record {
+    can =
+        subst (λ (g : Geometry). CanSwitch g.fpages b.journal.tables.pages b.journal.free inode slice) (sym is.before.geo)
+        (subst (λ (t : Tables). CanSwitch a.journal.geo.fpages t.pages b.journal.free inode slice) (sym is.before.tables)
+        (subst (CanSwitch a.journal.geo.fpages a.journal.tables.pages b.journal.free inode) (sym is.same)
+        (record { below = is.low; are = made_switches a.journal inode ranges items b.journal.free is.are is.low is.made few; held = is.made.held })));
+    within =
+        subst (λ (t : Tables). ArePagesOf (pages_at t.files inode) slice) (sym is.before.tables)
+        (subst (ArePagesOf (pages_at a.journal.tables.files inode)) (sym is.same) (made_pages a.journal inode ranges items b.journal.free is.are is.low is.made));
+    unrefused = commit-unrefused;
+  }
 
   pub next_is : switched inode slice b.journal.tables ≡ switched inode items a.journal.tables
   next_is = ap (λ (xs : List (ℕ × Option ℕ)). switched inode xs b.journal.tables) is.same ∙ ap (λ (t : Tables). switched inode items t) is.before.tables

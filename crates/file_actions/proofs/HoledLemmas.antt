@@ -1,9 +1,13 @@
 -- A file of which pages become holes.
-use Rattle.std.proofs.Common.{◌≡◌, ◌⊎◌, inl, inr, ℕ, zero, suc, ◌+◌, ◌/◌, ◌<◌, ◌≤◌, ◌&&◌, Bool, true, false, cond, is_none, is_some, List, [], ◌∷◌, length, map, Option, Some, None, option_map, slice_get, slice_index_or, refl, sym, ap, ap₂, subst, ◌∙◌, arith}
+use Rattle.std.proofs.Common.{◌≡◌, ◌⊎◌, inl, inr, ℕ, zero, suc, ◌+◌, ◌/◌, ◌<◌, ◌≤◌, ◌&&◌, Bool, true, false, cond, is_none, is_some, List, [], ◌∷◌, length, map, Option, Some, None, Result, option_map, slice_get, slice_index_or, refl, sym, ap, ap₂, subst, ◌∙◌, arith}
 use Rattle.std.proofs.lemmas.Bool.{cases_Bool, false≢true}
 use Rattle.std.proofs.lemmas.List.Sums.{sum_by-cons}
 use Rattle.std.proofs.lemmas.Option.{get_or_from_slice_get, none-some, same_Some}
+use Rattle.line_device.specs.Device.{Device}
 use Rattle.line_device.specs.Medium.{Medium}
+use Rattle.line_words.specs.declared.interruption.Interruption.{Interruption}
+use Rattle.word_tables.specs.Layout.{meta_lines}
+use Rattle.nvm_model.specs.Lines.{AreGood}
 use Rattle.line_words.specs.Words.{WritesBackOutside}
 use Rattle.word_log.specs.Area.{IsOf}
 use Rattle.word_tables.specs.Bounds.{IsValid}
@@ -17,23 +21,26 @@ use Rattle.nvm_model.specs.Page.{Page, discard, discard_page, is_present, presen
 use Rattle.nvm_model.specs.Page.Page.{Absent, Present}
 use Rattle.nvm_model.specs.Storage.{File}
 use Rattle.nvm_model.proofs.AlikeChangeLemmas.{alike-change}
-use Rattle.nvm_model.proofs.NumberedLemmas.{slice_get-map_from}
+use Rattle.nvm_model.proofs.NumberedLemmas.{length-list_from, slice_get-map_from}
 use Rattle.nvm_model.proofs.OneFileLemmas.{left-change, left-same}
 use Rattle.nvm_model.proofs.PageLemmas.{cell_of-discard, page_of_line, presence_of-map}
 use Rattle.nvm_model.proofs.TouchedPageLemmas.{among_bounds, among_from}
 use Rattle.file_journal.specs.Area.{file_area}
-use Rattle.file_journal.specs.Changes.{filled_holes, holes, switched, unit_for}
+use Rattle.file_journal.specs.Changes.{filled_holes, holes, named_units, switched, unit_for}
 use Rattle.file_journal.specs.Files.{UnitFile, files_of, switched_file, unit_file_name}
 use Rattle.file_journal.specs.Images.{EachReadsTables, IsEither}
 use Rattle.file_journal.specs.Object.{JournalState}
 use Rattle.file_journal.specs.Standing.{EachReadsFiles, FileStands, FilesStand, line_of_file, line_on, pages_there}
 use Rattle.file_journal.specs.Switches.{ArePagesOf}
 use Rattle.file_journal.specs.Tables.{AreTables, Tables, unit_at}
+use Rattle.file_journal.specs.Calls.{Works}
+use Rattle.file_pages.specs.Calls.{MaySwitch}
+use Rattle.file_actions.proofs.SwitchingLemmas.{unrefused}
 use Rattle.file_journal.proofs.FileChangeLemmas.{Becomes, changed_images}
 use Rattle.file_journal.proofs.FileLineLemmas.{page_lines-kept}
 use Rattle.file_journal.proofs.EachFilesLemmas.{each_files-then}
 use Rattle.file_journal.proofs.FillLemmas.{set_again, switched_are}
-use Rattle.file_journal.proofs.HoleLemmas.{hole_at, holes_are, holes_held, unit_for-hole}
+use Rattle.file_journal.proofs.HoleLemmas.{hole_at, holes_are, holes_held, named_holes, unit_for-hole}
 use Rattle.file_journal.proofs.NamedFileLemmas.{files_of-switched}
 use Rattle.file_journal.proofs.ReplaceLemmas.{pages_at_most}
 use Rattle.file_journal.proofs.StandingLemmas.{files-kept, unit_there}
@@ -160,6 +167,23 @@ module _ (first count : ℕ) where
         (λ on file other same stands. stands) stand);
   }
 
+-- They may be switched, and the journal's work on switches is its work on them.
+pub holes_may_switch : (s : JournalState) (m : Medium) (inode first count : ℕ) → AreTables s.geo.fpages s.tables → inode < 64 → first + count ≤ pages_at s.tables.files inode → AreGood m (meta_lines s.geo) → MaySwitch s m inode (holes first count)
+holes_may_switch s m inode first count are low within good = record {
+  can = record { below = low; are = holes_are s.geo.fpages first count (omega (arith, pages_at_most s.tables.files inode are.names low, within)); held = holes_held s.tables.pages s.free first count };
+  within = holes-within first count (pages_at s.tables.files inode) within;
+  unrefused = unrefused s m inode (holes first count) (omega (arith, filled-holes s.tables inode first count, are.room)) good;
+}
+
+pub holes_work : {D T : Type 0} (state : D → Device) (s t : JournalState) (before after : D) (result : Result T Interruption) (inode first count : ℕ) (ss : List (ℕ × Option ℕ)) → ss ≡ holes first count
+    → Works state s t before after result (switched inode ss s.tables) (named_units ss) (5 + length ss) → Works state s t before after result (switched inode (holes first count) s.tables) 0 (5 + count)
+holes_work state s t before after result inode first count ss is works =
+    let to = switched inode (holes first count) s.tables in
+    let page : ℕ → ℕ × Option ℕ = λ page. (page, None) in
+    subst (λ n. Works state s t before after result to 0 (5 + n)) (length-list_from page first count)
+    (subst (λ n. Works state s t before after result to n (5 + length (holes first count))) (named_holes first count)
+    (subst (λ xs. Works state s t before after result (switched inode xs s.tables) (named_units xs) (5 + length xs)) is works))
+
 -- What a commit of them leaves of the files that journal and device stood for.
 module _ (s : JournalState) (old new : Medium) (valid : IsValid s.geo) (are : AreTables s.geo.fpages s.tables) (inode : ℕ) (low : inode < 64) (first count : ℕ) (within : first + count ≤ pages_at s.tables.files inode)
     (back : WritesBackOutside (IsOf (file_area s.geo)) old new) (listed : List File) (file : File) (at : IsFileAt s old inode listed file) where
@@ -182,3 +206,4 @@ module _ (s : JournalState) (old new : Medium) (valid : IsValid s.geo) (are : Ar
       by_case : (x : List File) → (x ≡ listed) ⊎ (x ≡ change_file file_name file.name (on_pages (discard first count)) listed) → OneFileLeft file.name (λ was left. (left ≡ was) ⊎ (left ≡ discard first count was)) listed x
       by_case x (inl same) = subst (OneFileLeft file.name (λ was left. (left ≡ was) ⊎ (left ≡ discard first count was)) listed) (sym same) (left-same file.name _ (λ p. inl refl) listed)
       by_case x (inr next) = subst (OneFileLeft file.name (λ was left. (left ≡ was) ⊎ (left ≡ discard first count was)) listed) (sym next) (left-change file.name (discard first count) _ (λ p. inr refl) listed)
+

@@ -12,4 +12,5 @@ mod SwitchingLemmas
 mod SyncedLemmas
 mod ToldLemmas
 mod RewrittenLemmas
+mod CallLemmas
 mod CommitLemmas

@@ -22,7 +22,8 @@ use Rattle.file_pages.specs.Fresh.{IsOfUnit, durable_cell}
 use Rattle.file_pages.specs.Object.{PagesState, pages_there}
 use Rattle.file_pages.proofs.FreshLemmas.{length-pushed, not_both, pushed_is, pushed_new, pushed_old, taken_now, taken_still}
 use Rattle.file_pages.proofs.HoleLemmas.{page_there}
-use Rattle.file_actions.specs.Made.{AreAsBefore, AreMade, AreWritten, HoldsPage, IsPassed, IsWritten, new_line}
+use Rattle.file_pages.specs.Calls.{AreAsBefore}
+use Rattle.file_actions.specs.Made.{AreMade, AreWritten, HoldsPage, IsPassed, IsWritten, new_line}
 use Rattle.file_actions.specs.Rewriting.{touches_any_page}
 use Rattle.file_actions.proofs.PreparedLemmas.{file_still}
 use Rattle.file_actions.proofs.CountLemmas.{counted-more, counted-one, counted-same}
@@ -155,7 +156,7 @@ module _ (s : JournalState) (inode : ℕ) (ranges : List Span) where
           same_unit v j lt of = omega (arith, of, lt)
 
 -- a page more was written, or passed
-module _ (a b c : PagesState) (old mid new : Medium) (inode : ℕ) (ranges : List Span) (bytes : List ℕ) (k all : ℕ) (switches after : List (ℕ × Option ℕ)) (x : AreAsBefore a old b mid)
+module _ (a b c : PagesState) (old mid new : Medium) (inode : ℕ) (ranges : List Span) (bytes : List ℕ) (k all : ℕ) (switches after : List (ℕ × Option ℕ)) (x : AreAsBefore a.journal b.journal old mid)
     (made : AreMade a.journal inode ranges k switches b.journal.free) (written : AreWritten a.journal old inode ranges bytes mid switches) (left : free_count b.journal.free + length switches ≡ all) where
   pub step_written : (u : ℕ) → k < pages_at a.journal.tables.files inode → IsWritten b mid inode ranges bytes k c new u → after ≡ switches ++ (k, Some u) ∷ []
       → AreMade a.journal inode ranges (k + 1) after c.journal.free × AreWritten a.journal old inode ranges bytes new after × (free_count c.journal.free + length after ≡ all)
@@ -165,7 +166,7 @@ module _ (a b c : PagesState) (old mid new : Medium) (inode : ℕ) (ranges : Lis
       let below = subst (λ (g : Geometry). u < g.fpages) x.geo w.takes.below in
       let beside = subst (λ (g : Geometry). WritesBackOthers (IsOfUnit (file_line g u)) mid new) x.geo w.beside in
       let holds : HoldsPage a.journal old inode ranges bytes new k u = λ listed file at j lt.
-      subst (λ (g : Geometry). CellStands new (file_line g u + j) (durable_cell (new_line ranges bytes file.pages (64 * k + j)))) x.geo (w.holds listed file (file_still a b old mid x inode listed file at) j lt) in
+      subst (λ (g : Geometry). CellStands new (file_line g u + j) (durable_cell (new_line ranges bytes file.pages (64 * k + j)))) x.geo (w.holds listed file (file_still a.journal b.journal old mid x inode listed file at) j lt) in
       let more = made_more a.journal inode ranges k switches b.journal.free made within u w.touched w.takes.free vacant below in
       let lines = written_more a.journal inode ranges k switches b.journal.free made within u w.touched w.takes.free vacant below old mid new bytes written beside holds in
       let count = free_count-taken b.journal.free u w.takes.free in

@@ -3,3 +3,4 @@ pub mod Refusals
 pub mod Costs
 pub mod Checked
 pub mod Made
+pub mod Calls

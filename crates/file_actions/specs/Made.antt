@@ -9,13 +9,11 @@ use Rattle.nvm_model.specs.Numbered.{list_from}
 use Rattle.nvm_model.specs.Page.{Page, byte_in}
 use Rattle.nvm_model.specs.Storage.{File}
 use Rattle.page_lines.specs.Turns.{WritesBackOthers}
-use Rattle.file_journal.specs.Area.{IsOfFiles}
 use Rattle.file_journal.specs.Changes.{filled_holes}
 use Rattle.file_journal.specs.Object.{JournalState}
-use Rattle.file_journal.specs.Standing.{FilesStand}
 use Rattle.file_journal.specs.Switches.{AreHeld, IsSwitch}
 use Rattle.file_pages.specs.Fresh.{IsOfUnit, Takes, durable_cell}
-use Rattle.file_pages.specs.Object.{IsFileAt, KeepsMarks, PagesServe, PagesState, pages_there}
+use Rattle.file_pages.specs.Object.{IsFileAt, PagesState, pages_there}
 use Rattle.file_actions.specs.Rewriting.{byte_laid, pages_touched, touches_any_page}
 
 -- a byte of pages once those of ranges are over them
@@ -36,15 +34,6 @@ abbrev pub HoldsPage : JournalState → Medium → ℕ → List Span → List �
 HoldsPage s m inode ranges bytes now page unit =
     (listed : List File) (file : File) → IsFileAt s m inode listed file
     → (k : ℕ) → k < 64 → CellStands now (file_line s.geo unit + k) (durable_cell (new_line ranges bytes file.pages (64 * page + k)))
-
--- Tables and files are as before, and no line of metadata was worked on.
-pub record AreAsBefore (s : PagesState) (old : Medium) (now : PagesState) (new : Medium) : Type 0 where
-  pub geo : now.journal.geo ≡ s.journal.geo
-  pub tables : now.journal.tables ≡ s.journal.tables
-  pub files : (listed : List File) → FilesStand s.journal.geo old s.journal.tables listed → FilesStand s.journal.geo new s.journal.tables listed
-  pub outside : WritesBackOthers (IsOfFiles s.journal.geo) old new
-  pub metadata : KeepsMarks s.journal.geo old new
-  pub serves : PagesServe now new
 
 -- no range touches the page, and nothing was done
 pub record IsPassed (s : PagesState) (old : Medium) (ranges : List Span) (page : ℕ) (now : PagesState) (new : Medium) : Type 0 where

@@ -9,6 +9,10 @@ use Rattle.nvm_model.specs.Numbered.{is_among, list_from, map_from}
 use Rattle.nvm_model.specs.Page.{Page, byte_in, cell_of, is_bad_cell, touches_page}
 use Rattle.nvm_model.specs.Page.Page.{Present}
 
+-- one range, from an offset on, that has all bytes
+abbrev pub one_range : ℕ → List ℕ → List Span
+one_range offset bytes = record { start = offset; len = length bytes } ∷ []
+
 -- some range touches page i, or covers line n wholly
 abbrev pub touches_any_page : List Span → ℕ → Bool
 touches_any_page ranges i = list_any (λ (range : Span). touches_page range.start range.len i) ranges

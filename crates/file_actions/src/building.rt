@@ -1,21 +1,15 @@
 // The new bytes of a page: those of ranges, over the ones last stored.
-ghost use Rattle.std.specs.Prelude.{◌≡◌, ◌+◌, ◌*◌, ◌/◌, ◌^◌, ◌<◌, ℕ, IsTrue, List, None, OnOk, drop, false, length, sum_by, take, true};
-ghost use Rattle.std.specs.Result.{is_ok};
+ghost use Rattle.std.specs.Prelude.{◌≡◌, ◌+◌, ◌*◌, ◌<◌, ℕ, List, None, OnOk, drop, false, length, sum_by, take};
 ghost use Rattle.nvm_base.specs.declared.units.Span.{Span as Stretch};
-ghost use Rattle.line_device.specs.Medium.{WritesBack};
-ghost use Rattle.line_device.specs.Panel.{Runs};
-ghost use Rattle.line_words.specs.Ending.{ended};
 ghost use Rattle.line_words.specs.Told.{refusal_of};
 ghost use Rattle.line_words.specs.Told.Told.{Stops};
-ghost use Rattle.inode_table.specs.Slots.{pages_at};
 ghost use Rattle.nvm_model.specs.Page.{look};
 ghost use Rattle.nvm_model.specs.Storage.{File};
-ghost use Rattle.file_journal.specs.Tables.{AreTables};
-ghost use Rattle.file_pages.specs.Object.{IsFileAt, PagesServe, is_settled};
+ghost use Rattle.file_pages.specs.Object.{IsFileAt};
 ghost use Rattle.file_pages.specs.Refusals.{page_says};
-ghost use Rattle.file_actions.specs.Checked.{AreKept, AreTogether};
+ghost use Rattle.file_actions.specs.Calls.{CanBuild, IsTouched, IsTouchedLine, Reads};
 ghost use Rattle.file_actions.specs.Made.{IsNewLine};
-ghost use Rattle.file_actions.specs.Rewriting.{covers_any, touches_any_page};
+ghost use Rattle.file_actions.specs.Rewriting.{covers_any};
 
 use crate::ranges::{covers_any, lay};
 use file_pages::{FilePages, PageFault};
@@ -36,25 +30,14 @@ pub(crate) fn build_page<L: Lines>(
     bytes: &[u8],
     out: &mut [u8],
 ) -> Result<(), Interruption>
-    requires serves { PagesServe files.old (L.state dev.old).medium }
-    requires settled { IsTrue (is_settled files.old) }
-    requires tables { AreTables files.old.journal.geo.fpages files.old.journal.tables }
-    requires on { IsTrue (L.state dev.old).panel.power }
-    requires inode { inode < 64 }
-    requires together { AreTogether (pages_at files.old.journal.tables.files inode) ranges.now }
+    requires can { CanBuild files.old (L.state dev.old) inode ranges.now }
     requires bytes { length bytes.now ≡ sum_by (λ (r : Stretch). r.len) ranges.now }
-    requires kept { AreKept files.old.journal (L.state dev.old).medium inode ranges.now }
-    requires touched { touches_any_page ranges.now page ≡ true }
-    requires page { page < pages_at files.old.journal.tables.files inode }
-    requires small { page < 256 }
+    requires touched { IsTouched files.old.journal inode ranges.now page }
     requires length { length out.old ≡ 4096 }
     ensures length { length out.new ≡ 4096 }
     ensures ok { OnOk result ((k : ℕ) → k < 64
         → IsNewLine files.old.journal (L.state dev.old).medium inode ranges.now bytes.now (64 * page + k) (take 64 (drop (64 * k) out.new))) }
-    ensures lines { WritesBack (L.state dev.old).medium (L.state dev.new).medium }
-    ensures serves { PagesServe files.new (L.state dev.new).medium }
-    ensures object { (files.new.journal ≡ files.old.journal) × (is_settled files.new ≡ is_ok result) }
-    ensures runs { Runs 64 0 (ended result) (L.state dev.old).panel (L.state dev.new).panel }
+    ensures reads { Reads files.old files.new (L.state dev.old) (L.state dev.new) result 64 }
 {
     for k in 0..PAGE_LINES {
         let at = (LINE * k) as usize;
@@ -82,24 +65,13 @@ fn build_line<L: Lines>(
     bytes: &[u8],
     out: &mut [u8],
 ) -> Result<(), Interruption>
-    requires serves { PagesServe files.old (L.state dev.old).medium }
-    requires settled { IsTrue (is_settled files.old) }
-    requires tables { AreTables files.old.journal.geo.fpages files.old.journal.tables }
-    requires on { IsTrue (L.state dev.old).panel.power }
-    requires inode { inode < 64 }
-    requires together { AreTogether (pages_at files.old.journal.tables.files inode) ranges.now }
+    requires can { CanBuild files.old (L.state dev.old) inode ranges.now }
     requires bytes { length bytes.now ≡ sum_by (λ (r : Stretch). r.len) ranges.now }
-    requires kept { AreKept files.old.journal (L.state dev.old).medium inode ranges.now }
-    requires touched { touches_any_page ranges.now (line / 64) ≡ true }
-    requires line { line < 64 * pages_at files.old.journal.tables.files inode }
-    requires small { line < 2 ^ 14 }
+    requires touched { IsTouchedLine files.old.journal inode ranges.now line }
     requires length { length out.old ≡ 64 }
     ensures length { length out.new ≡ 64 }
     ensures ok { OnOk result (IsNewLine files.old.journal (L.state dev.old).medium inode ranges.now bytes.now line out.new) }
-    ensures lines { WritesBack (L.state dev.old).medium (L.state dev.new).medium }
-    ensures serves { PagesServe files.new (L.state dev.new).medium }
-    ensures object { (files.new.journal ≡ files.old.journal) × (is_settled files.new ≡ is_ok result) }
-    ensures runs { Runs 1 0 (ended result) (L.state dev.old).panel (L.state dev.new).panel }
+    ensures reads { Reads files.old files.new (L.state dev.old) (L.state dev.new) result 1 }
 {
     load_rest(dev, files, inode, line, ranges, out)?;
     lay(ranges, bytes, LINE * line, out);
@@ -115,25 +87,14 @@ fn load_rest<L: Lines>(
     ranges: &[Span],
     out: &mut [u8],
 ) -> Result<(), Interruption>
-    requires serves { PagesServe files.old (L.state dev.old).medium }
-    requires settled { IsTrue (is_settled files.old) }
-    requires tables { AreTables files.old.journal.geo.fpages files.old.journal.tables }
-    requires on { IsTrue (L.state dev.old).panel.power }
-    requires inode { inode < 64 }
-    requires together { AreTogether (pages_at files.old.journal.tables.files inode) ranges.now }
-    requires kept { AreKept files.old.journal (L.state dev.old).medium inode ranges.now }
-    requires touched { touches_any_page ranges.now (line / 64) ≡ true }
-    requires line { line < 64 * pages_at files.old.journal.tables.files inode }
-    requires small { line < 2 ^ 14 }
+    requires can { CanBuild files.old (L.state dev.old) inode ranges.now }
+    requires touched { IsTouchedLine files.old.journal inode ranges.now line }
     requires length { length out.old ≡ 64 }
     ensures length { length out.new ≡ 64 }
     ensures ok { OnOk result (covers_any ranges.now line ≡ false
         → (listed : List File) (file : File) → IsFileAt files.old.journal (L.state dev.old).medium inode listed file
         → out.new ≡ look file.pages (64 * line) 64) }
-    ensures lines { WritesBack (L.state dev.old).medium (L.state dev.new).medium }
-    ensures serves { PagesServe files.new (L.state dev.new).medium }
-    ensures object { (files.new.journal ≡ files.old.journal) × (is_settled files.new ≡ is_ok result) }
-    ensures runs { Runs 1 0 (ended result) (L.state dev.old).panel (L.state dev.new).panel }
+    ensures reads { Reads files.old files.new (L.state dev.old) (L.state dev.new) result 1 }
 {
     if covers_any(ranges, line) {
         return Ok(());

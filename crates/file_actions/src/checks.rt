@@ -1,5 +1,5 @@
 // When actions are refused. None of this makes a counted call.
-ghost use Rattle.std.specs.Prelude.{◌≡◌, ◌+◌, ◌*◌, ◌==◌, ◌<◌, ◌≤◌, All, List, OnOk, nat_lt};
+ghost use Rattle.std.specs.Prelude.{◌≡◌, ◌+◌, ◌*◌, ◌==◌, ◌<◌, ◌≤◌, All, OnOk, nat_lt};
 ghost use Rattle.std.specs.List.{list_any};
 ghost use Rattle.nvm_base.specs.declared.units.Span.{Span as Stretch};
 ghost use Rattle.line_device.specs.Panel.Outcome.{went};
@@ -8,10 +8,10 @@ ghost use Rattle.word_tables.specs.Bounds.{IsValid};
 ghost use Rattle.word_tables.specs.Layout.{meta_lines, total_lines};
 ghost use Rattle.page_table.specs.Pages.{used_pages};
 ghost use Rattle.nvm_model.specs.Lines.{AreGood};
-ghost use Rattle.nvm_model.specs.Storage.{File};
 ghost use Rattle.range_sets.specs.Ranges.{IsInReach};
 ghost use Rattle.file_journal.specs.Tables.{AreTables};
-ghost use Rattle.file_pages.specs.Object.{IsFileAt, PagesServe, pages_there};
+ghost use Rattle.file_pages.specs.Object.{PagesServe, pages_there};
+ghost use Rattle.file_pages.specs.Work.{IfFile};
 ghost use Rattle.file_actions.specs.Checked.{AreTogether, AreWritable, IsWithin};
 ghost use Rattle.file_actions.specs.Refusals.{action_says, extents_refusal, full_refusal, holes_touched, metadata_refusal, together_refusal, write_refusal};
 
@@ -42,8 +42,8 @@ pub(crate) fn check_write<L: Lines>(
 ) -> Result<(), ActionFault>
     requires serves { PagesServe files.now (L.state dev.now).medium }
     requires inode { inode < 64 }
-    ensures refused { (listed : List File) (file : File) → IsFileAt files.now.journal (L.state dev.now).medium inode listed file
-        → Checks action_says (write_refusal files.now.journal (L.state dev.now).medium file.pages ranges.now) result }
+    ensures refused { IfFile files.now.journal (L.state dev.now).medium inode
+        (λ pages. Checks action_says (write_refusal files.now.journal (L.state dev.now).medium pages ranges.now) result) }
     ensures went { outcome_by action_says result ≡ went }
     ensures writable { OnOk result (AreWritable files.now.journal (L.state dev.now).medium inode ranges.now) }
     ensures tables { AreTables files.now.journal.geo.fpages files.now.journal.tables }

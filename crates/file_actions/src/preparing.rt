@@ -1,15 +1,10 @@
 // New pages on fresh units that no file has yet.
-ghost use Rattle.std.specs.Prelude.{◌≡◌, ◌+◌, ◌*◌, ◌<◌, ◌≤◌, [], IfOk, IsTrue, MatchOption, OnOk, if◌then◌else◌, length, sum_by, true};
-ghost use Rattle.std.specs.Result.{is_ok};
+ghost use Rattle.std.specs.Prelude.{◌≡◌, ◌+◌, ◌<◌, ◌≤◌, [], IfOk, MatchOption, OnOk, if◌then◌else◌, length, sum_by, true};
 ghost use Rattle.free_pool.specs.Units.{free_count};
 ghost use Rattle.nvm_base.specs.declared.units.Span.{Span as Stretch};
-ghost use Rattle.line_device.specs.Panel.{Runs};
-ghost use Rattle.line_words.specs.Ending.{ended};
 ghost use Rattle.inode_table.specs.Slots.{pages_at};
-ghost use Rattle.file_journal.specs.Tables.{AreTables};
-ghost use Rattle.file_pages.specs.Object.{PagesServe, is_settled};
-ghost use Rattle.file_actions.specs.Checked.{AreKept, AreTogether};
-ghost use Rattle.file_actions.specs.Made.{AreAsBefore, AreMade, AreWritten, IsPassed, IsWritten};
+ghost use Rattle.file_actions.specs.Calls.{CanBuild, IsTouched, Prepares};
+ghost use Rattle.file_actions.specs.Made.{AreMade, AreWritten, IsPassed, IsWritten};
 ghost use Rattle.file_actions.specs.Rewriting.{pages_touched, touches_any_page};
 
 use crate::building::{build_page, stop_of};
@@ -32,24 +27,14 @@ pub(crate) fn write_pages<L: Lines>(
     bytes: &[u8],
     switches: &mut Switches,
 ) -> Result<(), Interruption>
-    requires serves { PagesServe files.old (L.state dev.old).medium }
-    requires settled { IsTrue (is_settled files.old) }
-    requires tables { AreTables files.old.journal.geo.fpages files.old.journal.tables }
-    requires on { IsTrue (L.state dev.old).panel.power }
-    requires inode { inode < 64 }
-    requires together { AreTogether (pages_at files.old.journal.tables.files inode) ranges.now }
+    requires can { CanBuild files.old (L.state dev.old) inode ranges.now }
     requires bytes { length bytes.now ≡ sum_by (λ (r : Stretch). r.len) ranges.now }
-    requires kept { AreKept files.old.journal (L.state dev.old).medium inode ranges.now }
     requires free { 16 ≤ free_count files.old.journal.free }
     requires none { switches.old.items ≡ [] }
-    ensures before { AreAsBefore files.old (L.state dev.old).medium files.new (L.state dev.new).medium }
+    ensures prepares { Prepares files.old files.new (L.state dev.old) (L.state dev.new) result (pages_touched ranges.now (pages_at files.old.journal.tables.files inode)) }
     ensures made { OnOk result (AreMade files.old.journal inode ranges.now (pages_at files.old.journal.tables.files inode) switches.new.items files.new.journal.free) }
     ensures written { OnOk result (AreWritten files.old.journal (L.state dev.old).medium inode ranges.now bytes.now (L.state dev.new).medium switches.new.items) }
     ensures left { OnOk result (free_count files.new.journal.free + length switches.new.items ≡ free_count files.old.journal.free) }
-    ensures settled { is_settled files.new ≡ is_ok result }
-    ensures runs { Runs (256 * pages_touched ranges.now (pages_at files.old.journal.tables.files inode))
-        (64 * pages_touched ranges.now (pages_at files.old.journal.tables.files inode))
-        (ended result) (L.state dev.old).panel (L.state dev.new).panel }
 {
     for page in 0..files.journal().pages(inode) {
         if let Some(unit) = write_touched(dev, files, inode, page, ranges, bytes)? {
@@ -68,23 +53,14 @@ fn write_touched<L: Lines>(
     ranges: &[Span],
     bytes: &[u8],
 ) -> Result<Option<u64>, Interruption>
-    requires serves { PagesServe files.old (L.state dev.old).medium }
-    requires settled { IsTrue (is_settled files.old) }
-    requires tables { AreTables files.old.journal.geo.fpages files.old.journal.tables }
-    requires on { IsTrue (L.state dev.old).panel.power }
-    requires inode { inode < 64 }
-    requires together { AreTogether (pages_at files.old.journal.tables.files inode) ranges.now }
+    requires can { CanBuild files.old (L.state dev.old) inode ranges.now }
     requires bytes { length bytes.now ≡ sum_by (λ (r : Stretch). r.len) ranges.now }
-    requires kept { AreKept files.old.journal (L.state dev.old).medium inode ranges.now }
     requires page { page < pages_at files.old.journal.tables.files inode }
     requires small { page < 256 }
     requires free { touches_any_page ranges.now page ≡ true → 1 ≤ free_count files.old.journal.free }
-    ensures before { AreAsBefore files.old (L.state dev.old).medium files.new (L.state dev.new).medium }
+    ensures prepares { Prepares files.old files.new (L.state dev.old) (L.state dev.new) result (if touches_any_page ranges.now page then 1 else 0) }
     ensures page { IfOk result (λ unit. MatchOption unit (IsPassed files.old (L.state dev.old).medium ranges.now page files.new (L.state dev.new).medium)
         (IsWritten files.old (L.state dev.old).medium inode ranges.now bytes.now page files.new (L.state dev.new).medium)) }
-    ensures settled { is_settled files.new ≡ is_ok result }
-    ensures runs { Runs (256 * (if touches_any_page ranges.now page then 1 else 0)) (64 * (if touches_any_page ranges.now page then 1 else 0))
-        (ended result) (L.state dev.old).panel (L.state dev.new).panel }
 {
     if !touches_any(ranges, page) {
         return Ok(None);
@@ -102,22 +78,12 @@ fn write_page<L: Lines>(
     ranges: &[Span],
     bytes: &[u8],
 ) -> Result<u64, Interruption>
-    requires serves { PagesServe files.old (L.state dev.old).medium }
-    requires settled { IsTrue (is_settled files.old) }
-    requires tables { AreTables files.old.journal.geo.fpages files.old.journal.tables }
-    requires on { IsTrue (L.state dev.old).panel.power }
-    requires inode { inode < 64 }
-    requires together { AreTogether (pages_at files.old.journal.tables.files inode) ranges.now }
+    requires can { CanBuild files.old (L.state dev.old) inode ranges.now }
     requires bytes { length bytes.now ≡ sum_by (λ (r : Stretch). r.len) ranges.now }
-    requires kept { AreKept files.old.journal (L.state dev.old).medium inode ranges.now }
-    requires touched { touches_any_page ranges.now page ≡ true }
-    requires page { page < pages_at files.old.journal.tables.files inode }
-    requires small { page < 256 }
+    requires touched { IsTouched files.old.journal inode ranges.now page }
     requires free { 1 ≤ free_count files.old.journal.free }
-    ensures before { AreAsBefore files.old (L.state dev.old).medium files.new (L.state dev.new).medium }
+    ensures prepares { Prepares files.old files.new (L.state dev.old) (L.state dev.new) result 1 }
     ensures page { IfOk result (IsWritten files.old (L.state dev.old).medium inode ranges.now bytes.now page files.new (L.state dev.new).medium) }
-    ensures settled { is_settled files.new ≡ is_ok result }
-    ensures runs { Runs 256 64 (ended result) (L.state dev.old).panel (L.state dev.new).panel }
 {
     let mut new_bytes = [0; 4096];
     build_page(dev, files, inode, page, ranges, bytes, &mut new_bytes)?;

@@ -6,7 +6,7 @@ use Rattle.file_actions.proofs.building.build_line.Goals as goal
 
 pub lay-requires-clause-ends : goal.lay-requires-clause-ends
 lay-requires-clause-ends g c =
-    in_reach _ c.args.ranges.now (pages_at_most c.args.files.now.journal.tables.files c.args.inode c.requires.tables.names c.requires.inode) c.requires.together.within
+    in_reach _ c.args.ranges.now (pages_at_most c.args.files.now.journal.tables.files c.args.inode c.requires.can.work.tables.names c.requires.can.work.low) c.requires.can.together.within
 
 pub returns-clause-ok : goal.returns-clause-ok
 returns-clause-ok g c = λ files file at.

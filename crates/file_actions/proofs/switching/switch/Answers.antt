@@ -8,5 +8,5 @@ pub stop_of-requires : goal.stop_of-requires
 stop_of-requires g c =
     let m = (g.L.Lines.state c.args.dev.now).medium in
     subst (λ o. Answers {T = Unit {0}} journal_says o (Err c.in-Err.fault))
-    (ap (λ (j : JournalState). switch_refusal j m c.args.inode c.args.switches.now) c.journal_mut.ensures.value ∙ c.requires.unrefused)
-    c.in-Err.ensures.refused
+    (ap (λ (j : JournalState). switch_refusal j m c.args.inode c.args.switches.now) c.journal_mut.ensures.value ∙ c.requires.switches.unrefused)
+    c.in-Err.ensures.changes.refused
