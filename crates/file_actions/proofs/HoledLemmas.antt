@@ -206,4 +206,3 @@ module _ (s : JournalState) (old new : Medium) (valid : IsValid s.geo) (are : Ar
       by_case : (x : List File) → (x ≡ listed) ⊎ (x ≡ change_file file_name file.name (on_pages (discard first count)) listed) → OneFileLeft file.name (λ was left. (left ≡ was) ⊎ (left ≡ discard first count was)) listed x
       by_case x (inl same) = subst (OneFileLeft file.name (λ was left. (left ≡ was) ⊎ (left ≡ discard first count was)) listed) (sym same) (left-same file.name _ (λ p. inl refl) listed)
       by_case x (inr next) = subst (OneFileLeft file.name (λ was left. (left ≡ was) ⊎ (left ≡ discard first count was)) listed) (sym next) (left-change file.name (discard first count) _ (λ p. inr refl) listed)
-

@@ -33,7 +33,7 @@ pub record IsTouchedLine (s : JournalState) (inode : ℕ) (ranges : List Span) (
   pub within : line < 64 * pages_at s.tables.files inode
   pub small : line < 2 ^ 14
 
--- Work on so many fresh units, while all files stay as they are.
+-- Work on at most `pages` fresh units, while all files stay as they are.
 pub record Prepares {T : Type 0} (s t : PagesState) (old new : Device) (result : Result T Interruption) (pages : ℕ) : Type 0 where
   pub before : AreAsBefore s.journal t.journal old.medium new.medium
   pub settled : is_settled t ≡ is_ok result

@@ -35,8 +35,8 @@ pub record CanSwitch (units : ℕ) (pages : List (Option ℕ)) (free : List Bool
   pub are : AreSwitches units switches
   pub held : AreHeld pages free switches
 
--- A call that changes which files there are, or their pages. It is refused for that reason, or makes the tables these, together or
--- not at all; so many of the units that were held are pages' then, and so many words are committed at most.
+-- A call that changes which files exist, or their pages. It is refused for that reason, or makes the tables these, together or not
+-- at all. Then `named` of the units that were held are pages', and at most `words` words were committed.
 pub record ChangesFiles {D T : Type 0} (state : D → Device) (s t : JournalState) (before after : D) (result : Result T JournalFault) (why : Option JournalRefusal) (tables : Tables) (named words : ℕ) : Type 0 where
   pub refused : Answers journal_says why result
   -- a refused call changes nothing
