@@ -35,3 +35,5 @@ pub mod PlainLemmas
 pub mod PreparedLemmas
 pub mod MadeLemmas
 pub mod ApartLemmas
+pub mod WorkLemmas
+pub mod CallLemmas

@@ -90,28 +90,6 @@ module _ (cs before : List Change) (block k : ℕ) (is : numbers_of cs ≡ numbe
       ∙ append_assoc (numbers_of before) (list_from (λ b. b) block k) ((block + k) ∷ [])
       ∙ ap (λ xs. numbers_of before ++ xs) (sym (list_from-push (λ b. b) block k))
 
--- prepared changes, made together
-module _ (s t : BlocksState) (m n : Medium) (cs : List Change) (x : AreAsBefore s t m n) (p : ArePrepared t n cs) (new : List Block) (is : blocks_with cs t n ≡ new) (o : Medium) (z : WritesBackOutside (IsOf (block_area t.geo)) n o) where
-  pub made_ok : {E : Type 0} (result : Result (Unit {0}) E) (u : BlocksState) → u.geo ≡ t.geo → OnOk result (u.map ≡ changed_map cs t.map) → OnOk result (blocks_of u o ≡ new)
-  made_ok (Ok done) u geo map =
-      let states = changed_map cs t.map in
-      ap (λ g. map_read g o.is_bad (last_image o) u.map) geo
-      ∙ ap (map_read t.geo o.is_bad (last_image o)) map
-      ∙ map_read-outside t.geo states n o (IsOf (block_area t.geo)) z
-      (λ q named of. named_apart t.geo x.serves.valid states q (length-changed_map cs t.map ∙ x.serves.all) (is_map-changed cs t.map p.may x.serves.is_map) named of)
-      ∙ is
-  made_ok (Err e) u geo map = tt
-
-  pub made_images : EachReads t.geo o (IsEither (blocks_of t n) (blocks_with cs t n)) → EachReads s.geo o (IsEither (blocks_of s m) new)
-  made_images each =
-      subst (λ g. EachReads g o (IsEither (blocks_of s m) new)) x.geo
-      (subst (λ bs. EachReads t.geo o (IsEither bs new)) x.blocks (subst (λ bs. EachReads t.geo o (IsEither (blocks_of t n) bs)) is each))
-
-  pub made_outside : WritesBackBeside (IsBlockLine s.geo) m o
-  made_outside =
-      beside-trans (IsBlockLine s.geo) m n o x.outside
-      (subst (λ g. WritesBackBeside (IsBlockLine g) n o) x.geo (beside-outside (IsOf (block_area t.geo)) (IsBlockLine t.geo) n o (area_is_block t.geo x.serves.valid) z))
-
 -- blocks that are settled, before the first change is prepared
 pub none_prepared : (v s : BlocksState) (area : LogArea) (m : Medium) (cs : List Change) → v ≡ s → IsKept v area → BlocksServe s m → IsTrue s.settled → cs ≡ [] → ArePrepared (record v { settled = false }) m cs
 none_prepared v s area m cs same kept serves settled none =
@@ -129,11 +107,3 @@ pub before_from : (v s t : BlocksState) (m n : Medium) → v ≡ s → AreAsBefo
 before_from v s t m n same x =
     let y : AreAsBefore (record s { settled = false }) t m n = subst (λ (z : BlocksState). AreAsBefore (record z { settled = false }) t m n) same x in
     record { geo = y.geo; map = y.map; quiet = y.quiet; unsettled = y.unsettled; blocks = y.blocks; serves = y.serves; good = y.good; outside = y.outside }
-
--- so many changes are prepared then
-pub prepared_count : (cs ds before : List Change) (block k : ℕ) → ds ≡ cs → before ≡ [] → numbers_of cs ≡ numbers_of before ++ list_from (λ b. b) block k → length ds ≡ k
-prepared_count cs ds before block k same none is =
-    let first : length ds ≡ length cs = ap length same in
-    let len = numbers_len cs before block k is in
-    let empty : length before ≡ 0 = ap length none in
-    omega (arith, first, len, empty)

@@ -1,9 +1,12 @@
 -- One prepared change more, on a unit that was free.
-use Rattle.std.proofs.Common.{◌≡◌, inl, inr, ℕ, Bool, false, cond, ◌+◌, ◌*◌, ◌/◌, ◌<◌, ◌≤◌, List, [], ◌∷◌, ◌++◌, length, map, get_or, set, take, drop, Option, Some, is_some, refl, sym, ◌∙◌, ap, subst, arith}
+use Rattle.std.proofs.Common.{◌≡◌, inl, inr, ℕ, Bool, false, cond, ◌+◌, ◌*◌, ◌/◌, ◌<◌, ◌≤◌, List, [], ◌∷◌, ◌++◌, length, map, get_or, set, take, drop, Option, Some, Ok, is_some, refl, sym, ◌∙◌, ap, subst, arith}
 use Rattle.std.proofs.lemmas.Bool.{ne_eqb, or_from}
 use Rattle.std.proofs.lemmas.List.{map-append, map-set, length-map}
 use Rattle.std.proofs.lemmas.List.Sums.{sum_by-append}
+use Rattle.line_device.specs.Device.{Device}
 use Rattle.line_device.specs.Medium.{Medium, IsSound, last_image}
+use Rattle.line_device.specs.Panel.{Runs}
+use Rattle.line_device.specs.Panel.Outcome.{went}
 use Rattle.line_words.specs.Words.{HoldsLine, WritesBackBeside}
 use Rattle.line_words.proofs.BesideLemmas.{beside-wider}
 use Rattle.word_tables.specs.declared.geometry.Geometry.{Geometry}
@@ -18,10 +21,11 @@ use Rattle.nvm_model.specs.Storage.{Block}
 use Rattle.nvm_model.specs.Blocks.{data_from, write}
 use Rattle.block_device.specs.declared.change.Change.{Change}
 use Rattle.block_device.specs.Area.{IsBlockLine}
+use Rattle.block_device.specs.Calls.{MayPrepare, PreparesBlocks}
 use Rattle.block_device.specs.Object.{BlocksState, IsInStep, BlocksServe, AreDurable, HasGoodMetadata, unit_on}
 use Rattle.block_device.specs.Reading.{block_read, map_read}
 use Rattle.block_device.specs.Changes.{MayChange, AreTaken, changed_map, is_on, names, takes, units_in, units_named}
-use Rattle.block_device.specs.Prepared.{ArePrepared, AreAsBefore, blocks_with}
+use Rattle.block_device.specs.Prepared.{ArePrepared, AreAsBefore, blocks_with, numbers_of}
 use Rattle.block_device.proofs.ReadLemmas.{map_read-beside, durable-beside}
 use Rattle.block_device.proofs.ServesLemmas.{serves-beside}
 use Rattle.block_device.proofs.ChangeLemmas.{is_at-set, length-changed_map, may_change-later, may_change-push}
@@ -81,87 +85,81 @@ unfolding first_line total_lines
 unit_there geo unit first len count within at whole all = omega arith
 
 -- a free unit beside prepared changes, its lines made new
-pub record HasSpare (s : BlocksState) (m n : Medium) (cs : List Change) (unit : ℕ) : Type 0 where
-  pub serves : BlocksServe s m
-  pub good : HasGoodMetadata s.geo m
-  pub unsettled : s.settled ≡ false
-  pub prepared : ArePrepared s m cs
+pub record HasSpare (s : BlocksState) (d : Device) (n : Medium) (cs : List Change) (unit : ℕ) : Type 0 where
+  pub may : MayPrepare s d cs
   pub within : unit < s.geo.blocks + 64
   pub was_free : IsFree s.free unit
-  pub lines : WritesBackBeside (IsUnitLine s.geo unit) m n
+  pub lines : WritesBackBeside (IsUnitLine s.geo unit) d.medium n
 
 -- the object once the unit is taken
 abbrev pub without : BlocksState → ℕ → BlocksState
 without s unit = record s { free = set s.free unit false }
 
-module _ (s : BlocksState) (m n : Medium) (cs : List Change) (unit : ℕ) (x : HasSpare s m n cs unit) where
+module _ (s : BlocksState) (d : Device) (n : Medium) (cs : List Change) (unit : ℕ) (x : HasSpare s d n cs unit) where
   vacant : (block : ℕ) → IsAt s.map block unit → ⊥
-  vacant = free_is_vacant s.map s.free (units_named cs) unit x.prepared.in_step x.was_free
+  vacant = free_is_vacant s.map s.free (units_named cs) unit x.may.prepared.in_step x.was_free
 
   vacant_then : (block : ℕ) → IsAt (changed_map cs s.map) block unit → ⊥
   vacant_then block at =
-      free_not_taken s.free unit unit x.was_free (changed_taken s.free cs s.map x.prepared.may x.prepared.taken (λ b u is. x.prepared.in_step.taken b u (on_unit s.map b u is)) block unit at) refl
+      free_not_taken s.free unit unit x.was_free (changed_taken s.free cs s.map x.may.prepared.may x.may.prepared.taken (λ b u is. x.may.prepared.in_step.taken b u (on_unit s.map b u is)) block unit at) refl
 
   serves_then : BlocksServe s n
   serves_then =
-      serves-beside s (IsUnitLine s.geo unit) m n x.serves.valid (unit_off_area s.geo x.serves.valid unit x.within) (unit_off_named s.geo s.map unit vacant) x.lines x.serves
+      serves-beside s (IsUnitLine s.geo unit) d.medium n x.may.serves.valid (unit_off_area s.geo x.may.serves.valid unit x.within) (unit_off_named s.geo s.map unit vacant) x.lines x.may.serves
 
-  pub spare_before : AreAsBefore s (without s unit) m n
+  pub spare_before : AreAsBefore s (without s unit) d.medium n
   spare_before =
       let now = serves_then in
       record {
         geo = refl;
         map = refl;
         quiet = refl;
-        unsettled = x.unsettled;
-        blocks = map_read-beside s.geo s.map m n (IsUnitLine s.geo unit) x.lines (unit_off_named s.geo s.map unit vacant);
+        unsettled = x.may.unsettled;
+        blocks = map_read-beside s.geo s.map d.medium n (IsUnitLine s.geo unit) x.lines (unit_off_named s.geo s.map unit vacant);
         serves = record { valid = now.valid; all = now.all; is_map = now.is_map; count = now.count; strong = now.strong; rest = now.rest; durable = now.durable };
-        good = λ k below. x.lines.stays_good k (x.good k below);
-        outside = beside-wider (IsUnitLine s.geo unit) (IsBlockLine s.geo) m n (unit_is_block s.geo x.serves.valid unit x.within) x.lines;
+        good = λ k below. x.lines.stays_good k (x.may.good k below);
+        outside = beside-wider (IsUnitLine s.geo unit) (IsBlockLine s.geo) d.medium n (unit_is_block s.geo x.may.serves.valid unit x.within) x.lines;
       }
 
   module _ (block : ℕ) (bytes : List ℕ) (b : HasBytes s unit n block bytes) where
     pub spare_prepared : names cs block ≡ false → ArePrepared (without s unit) n (cs ++ put block unit ∷ [])
     spare_prepared fresh = record {
       may =
-          may_change-push s.map cs (put block unit) (omega (arith, x.serves.all, b.there)) (omega (arith, x.serves.all, x.within), vacant) fresh
-          (takes-free s.free unit cs x.was_free x.prepared.taken) x.prepared.may;
-      taken = taken-push s.free block unit cs x.was_free x.prepared.taken;
+          may_change-push s.map cs (put block unit) (omega (arith, x.may.serves.all, b.there)) (omega (arith, x.may.serves.all, x.within), vacant) fresh
+          (takes-free s.free unit cs x.was_free x.may.prepared.taken) x.may.prepared.may;
+      taken = taken-push s.free block unit cs x.was_free x.may.prepared.taken;
       in_step =
           subst (λ k. IsInStep s.map (set s.free unit false) k) (sym (units_named-push cs block unit))
-          (in_step-taken s.map s.free unit (units_named cs) x.prepared.in_step x.was_free);
+          (in_step-taken s.map s.free unit (units_named cs) x.may.prepared.in_step x.was_free);
       durable =
           let states : List BlockState = changed_map cs s.map in
           subst (AreDurable s.geo n) (sym (changed_map-push cs (put block unit) s.map))
-          (durable-set s.geo m n states block unit bytes (omega (arith, b.there, x.serves.all, length-changed_map cs s.map))
-          (durable-beside s.geo states m n (IsUnitLine s.geo unit) x.lines (unit_off_named s.geo states unit vacant_then) x.prepared.durable) b.holds);
+          (durable-set s.geo d.medium n states block unit bytes (omega (arith, b.there, x.may.serves.all, length-changed_map cs s.map))
+          (durable-beside s.geo states d.medium n (IsUnitLine s.geo unit) x.lines (unit_off_named s.geo states unit vacant_then) x.may.prepared.durable) b.holds);
     }
 
-    pub spare_written : blocks_with (cs ++ put block unit ∷ []) (without s unit) n ≡ write block bytes (blocks_with cs s m)
+    pub spare_written : blocks_with (cs ++ put block unit ∷ []) (without s unit) n ≡ write block bytes (blocks_with cs s d.medium)
     spare_written =
         let states : List BlockState = changed_map cs s.map in
         let read : BlockState → Block = block_read s.geo n.is_bad (last_image n) in
         ap (map_read s.geo n.is_bad (last_image n)) (changed_map-push cs (put block unit) s.map)
         ∙ map-set read states block (At unit)
         ∙ ap (λ new. set (map read states) block new) (unit_reads s.geo n unit bytes b.sound b.small b.holds)
-        ∙ ap (λ bs. set bs block (data_from bytes 0)) (map_read-beside s.geo states m n (IsUnitLine s.geo unit) x.lines (unit_off_named s.geo states unit vacant_then))
+        ∙ ap (λ bs. set bs block (data_from bytes 0)) (map_read-beside s.geo states d.medium n (IsUnitLine s.geo unit) x.lines (unit_off_named s.geo states unit vacant_then))
         ∙ sym
-        (write_one bytes block (blocks_with cs s m) b.whole
-        (omega (arith, x.serves.all, b.there, length-map states (block_read s.geo m.is_bad (last_image m)), length-changed_map cs s.map)))
+        (write_one bytes block (blocks_with cs s d.medium) b.whole
+        (omega (arith, x.may.serves.all, b.there, length-map states (block_read s.geo d.medium.is_bad (last_image d.medium)), length-changed_map cs s.map)))
 
 -- as code finds them
 pub unit_at : (v s : BlocksState) (unit first : ℕ) → v ≡ s → first ≡ block_line v.geo unit → first ≡ block_line s.geo unit
 unit_at v s unit first same at = at ∙ ap (λ (z : BlocksState). block_line z.geo unit) same
 
-pub has_spare : (v s : BlocksState) (m n : Medium) (cs : List Change) (unit first len : ℕ) → v ≡ s → BlocksServe s m → HasGoodMetadata s.geo m → s.settled ≡ false → ArePrepared s m cs → unit < s.geo.blocks + 64 → IsFree s.free unit → first ≡ block_line v.geo unit → len ≡ 512 → WritesBackBeside (λ k. (first ≤ k) × (k < first + len / 64)) m n → HasSpare s m n cs unit
-has_spare v s m n cs unit first len same serves good unsettled prepared within was_free at whole lines = record {
-  serves = serves;
-  good = good;
-  unsettled = unsettled;
-  prepared = prepared;
+pub has_spare : (v s : BlocksState) (d : Device) (n : Medium) (cs : List Change) (unit first len : ℕ) → v ≡ s → MayPrepare s d cs → unit < s.geo.blocks + 64 → IsFree s.free unit → first ≡ block_line v.geo unit → len ≡ 512 → WritesBackBeside (λ k. (first ≤ k) × (k < first + len / 64)) d.medium n → HasSpare s d n cs unit
+has_spare v s d n cs unit first len same may within was_free at whole lines = record {
+  may = may;
   within = within;
   was_free = was_free;
-  lines = beside-wider _ _ m n (λ k h. is_unit_line s.geo unit first (len / 64) k (unit_at v s unit first same at) (omega arith) h) lines;
+  lines = beside-wider _ _ d.medium n (λ k h. is_unit_line s.geo unit first (len / 64) k (unit_at v s unit first same at) (omega arith) h) lines;
 }
 
 pub spare_bytes : (v s : BlocksState) (n : Medium) (unit first block : ℕ) (bytes : List ℕ) → v ≡ s → first ≡ block_line v.geo unit → block < s.geo.blocks → IsSound n → ((k : ℕ) → get_or bytes k 0 < 256) → length bytes ≡ 512 → ((k : ℕ) → k < length bytes / 64 → HoldsLine n (first + k) (take 64 (drop (64 * k) bytes))) → HasBytes s unit n block bytes
@@ -171,4 +169,15 @@ spare_bytes v s n unit first block bytes same at there sound small whole holds =
   sound = sound;
   small = small;
   whole = whole;
+}
+
+-- one block more is prepared
+pub spare_prepares : {D : Type 0} (state : D → Device) (s : BlocksState) (before after : D) (cs : List Change) (unit block : ℕ) (bytes : List ℕ) → HasSpare s (state before) (state after).medium cs unit → HasBytes s unit (state after).medium block bytes → names cs block ≡ false
+    → Runs 24 8 went (state before).panel (state after).panel → PreparesBlocks state s (without s unit) before after (Ok tt) cs (cs ++ put block unit ∷ []) (numbers_of cs ++ block ∷ []) (write block bytes) 24 8
+spare_prepares state s before after cs unit block bytes x b fresh runs = record {
+  as_before = spare_before s (state before) (state after).medium cs unit x;
+  prepared = spare_prepared s (state before) (state after).medium cs unit x block bytes b fresh;
+  numbered = map-append (λ (c : Change). c.block) cs (put block unit ∷ []);
+  written = spare_written s (state before) (state after).medium cs unit x block bytes b;
+  runs = runs;
 }

@@ -3,13 +3,14 @@ use Rattle.std.proofs.Common.{◌≡◌, inl, inr, ℕ, false, ◌||◌, ◌==�
 use Rattle.std.proofs.lemmas.Bool.{cases_eq, eq-eqb, ne_eqb, both_ways}
 use Rattle.std.proofs.lemmas.List.{length-map}
 use Rattle.line_device.specs.Medium.{Medium, last_image}
+use Rattle.line_device.specs.Panel.{Panel}
 use Rattle.line_words.specs.Words.{WritesBackOutside}
 use Rattle.word_tables.specs.declared.geometry.Geometry.{Geometry}
 use Rattle.word_tables.specs.Bounds.{IsValid}
 use Rattle.word_tables.specs.Layout.{block_map, first_line}
 use Rattle.word_tables.specs.Words.{place, of_block}
 use Rattle.word_log.specs.declared.area.LogArea.{LogArea}
-use Rattle.word_log.specs.Area.{IsOf, IsHome, IsWhole, IsStrong, Fits}
+use Rattle.word_log.specs.Area.{IsOf, IsHome, IsUsable, IsWhole, IsStrong, Fits}
 use Rattle.word_log.specs.Changes.{changed, lists, IsDistinct, MayCommit}
 use Rattle.word_log.specs.Replay.{Replays}
 use Rattle.word_log.proofs.ChangeLemmas.{changed-cong, changed-unlisted}
@@ -23,6 +24,7 @@ use Rattle.block_device.specs.Area.{block_area}
 use Rattle.block_device.specs.Reading.{map_read}
 use Rattle.block_device.specs.Object.{BlocksState, IsKept, BlocksServe, AreDurable, HasGoodMetadata, map_words}
 use Rattle.block_device.specs.Changes.{changed_map, names, MayChange, word_changes}
+use Rattle.block_device.specs.Prepared.{ArePrepared}
 use Rattle.block_device.specs.Images.{IsBlockImage, ReadsAs, EachReads, IsEither}
 use Rattle.block_device.proofs.ReadLemmas.{IsNamed, map_read-outside, durable-outside}
 use Rattle.block_device.proofs.PlaceLemmas.{area_fits, area_whole, area_strong, block_is_home, named_apart, image_on_area}
@@ -96,32 +98,27 @@ pub record IsReady (s : BlocksState) (area : LogArea) (m : Medium) (cs : List Ch
   pub kept : IsKept s area
   pub serves : BlocksServe s m
   pub good : HasGoodMetadata s.geo m
-  pub may : MayChange s.map cs
-  pub durable : AreDurable s.geo m (changed_map cs s.map)
+  pub prepared : ArePrepared s m cs
 
-pub ready_from : (view s : BlocksState) (area : LogArea) (m : Medium) (cs : List Change) → view ≡ s → IsKept view area → BlocksServe s m → HasGoodMetadata s.geo m → MayChange s.map cs → AreDurable s.geo m (changed_map cs s.map) → IsReady s area m cs
-ready_from view s area m cs is kept serves good may durable = record {
-  kept = subst (λ t. IsKept t area) is kept;
-  serves = serves;
-  good = good;
-  may = may;
-  durable = durable;
-}
+pub ready_from : (view s : BlocksState) (area : LogArea) (m : Medium) (cs : List Change) → view ≡ s → IsKept view area → BlocksServe s m → HasGoodMetadata s.geo m → ArePrepared s m cs → IsReady s area m cs
+ready_from view s area m cs is kept serves good prepared = record { kept = subst (λ t. IsKept t area) is kept; serves = serves; good = good; prepared = prepared }
 
 module _ (s : BlocksState) (area : LogArea) (old : Medium) (cs : List Change) (ready : IsReady s area old cs) where
-  pub ready_fits : Fits area old
-  ready_fits = subst (λ a. Fits a old) (sym ready.kept.area) (area_fits s.geo ready.kept.valid old ready.serves.count)
-
-  pub ready_strong : IsStrong area old
-  ready_strong = subst (λ a. IsStrong a old) (sym ready.kept.area) (area_strong s.geo ready.kept.valid old ready.serves.strong)
-
-  pub ready_whole : IsWhole area old
+  ready_whole : IsWhole area old
   ready_whole = subst (λ a. IsWhole a old) (sym ready.kept.area) (area_whole s.geo ready.kept.valid old ready.good)
+
+  pub ready_usable : (panel : Panel) → IsTrue panel.power → IsUsable area (record { medium = old; panel = panel })
+  ready_usable panel on = record {
+    on = on;
+    fits = subst (λ a. Fits a old) (sym ready.kept.area) (area_fits s.geo ready.kept.valid old ready.serves.count);
+    strong = subst (λ a. IsStrong a old) (sym ready.kept.area) (area_strong s.geo ready.kept.valid old ready.serves.strong);
+    whole = ready_whole;
+  }
 
   pub ready_taken : (words : List (ℕ × ℕ)) → words ≡ word_changes s.geo cs → 0 < length cs → length cs ≤ 64 → MayCommit area words
   ready_taken words is some few =
       subst (λ a. MayCommit a words) (sym ready.kept.area)
-      (subst (MayCommit (block_area s.geo)) (sym is) (words-taken s.geo s.map cs ready.kept.valid ready.kept.all some few ready.may))
+      (subst (MayCommit (block_area s.geo)) (sym is) (words-taken s.geo s.map cs ready.kept.valid ready.kept.all some few ready.prepared.may))
 
   changed_all : length (changed_map cs s.map) ≡ s.geo.blocks
   changed_all = length-changed_map cs s.map ∙ ready.kept.all
@@ -133,7 +130,7 @@ module _ (s : BlocksState) (area : LogArea) (old : Medium) (cs : List Change) (r
 
   -- the changes turn the words of the map into those of the other one
   turns : (words : List (ℕ × ℕ)) → words ≡ word_changes s.geo cs → (p : ℕ) → IsHome (block_area s.geo) p → changed words (map_words s.geo s.map) p ≡ map_words s.geo (changed_map cs s.map) p
-  turns words named p in_home = ap (λ ws. changed ws (map_words s.geo s.map) p) named ∙ words-changed s.geo s.map cs p ready.may (omega (arith, in_home))
+  turns words named p in_home = ap (λ ws. changed ws (map_words s.geo s.map) p) named ∙ words-changed s.geo s.map cs p ready.prepared.may (omega (arith, in_home))
 
   module _ (new : Medium) (x : WritesBackOutside (IsOf area) old new) where
     -- an image that replays to the words of one of the two maps
@@ -158,7 +155,7 @@ module _ (s : BlocksState) (area : LogArea) (old : Medium) (cs : List Change) (r
               (image_reads s.map image ready.kept.all ready.kept.is_map ready.serves.durable is was)
           | inr now ↦
               reads-then s.geo new (λ bs. bs ≡ other) (IsEither one other) image (λ bs e. inr e)
-              (image_reads (changed_map cs s.map) image changed_all (is_map-changed cs s.map ready.may ready.kept.is_map) ready.durable is now)
+              (image_reads (changed_map cs s.map) image changed_all (is_map-changed cs s.map ready.prepared.may ready.kept.is_map) ready.prepared.durable is now)
         ]
 
     -- after it the device is the one of the new map
@@ -169,11 +166,11 @@ module _ (s : BlocksState) (area : LogArea) (old : Medium) (cs : List Change) (r
         record {
           valid = ready.kept.valid;
           all = changed_all;
-          is_map = is_map-changed cs s.map ready.may ready.kept.is_map;
+          is_map = is_map-changed cs s.map ready.prepared.may ready.kept.is_map;
           count = x.count ∙ ready.serves.count;
           strong = λ n below. x.weak n ∙ ready.serves.strong n below;
           rest = words-rest area (block_area s.geo) ready.kept.area old new words (map_words s.geo s.map) (map_words s.geo after) ready.serves.rest (turns words named) rests;
-          durable = durable-outside s.geo after old new (IsOf area) x (apart_of after changed_all (is_map-changed cs s.map ready.may ready.kept.is_map)) ready.durable;
+          durable = durable-outside s.geo after old new (IsOf area) x (apart_of after changed_all (is_map-changed cs s.map ready.prepared.may ready.kept.is_map)) ready.prepared.durable;
         } in
         subst (λ g. BlocksServe (record t { geo = g }) new) (sym geo) (subst (λ ss. BlocksServe (record t { geo = s.geo; map = ss }) new) (sym map)
         (record { valid = serves.valid; all = serves.all; is_map = serves.is_map; count = serves.count; strong = serves.strong; rest = serves.rest; durable = serves.durable }))

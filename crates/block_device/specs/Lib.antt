@@ -6,3 +6,4 @@ pub mod Images
 pub mod Changes
 pub mod Mounting
 pub mod Prepared
+pub mod Calls

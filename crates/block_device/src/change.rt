@@ -1,4 +1,5 @@
 ghost use Rattle.std.specs.Prelude.{◌≡◌};
+ghost use Rattle.block_map.specs.declared.state.BlockState.TheVariants.{Absent};
 
 use block_map::BlockState;
 
@@ -10,7 +11,9 @@ pub struct Change {
 }
 
 impl Default for Change {
-    fn default() -> Self {
+    fn default() -> Self
+        ensures { result ≡ record { block = 0; state = Absent } }
+    {
         Change {
             block: 0,
             state: BlockState::Absent,

@@ -1,21 +1,16 @@
 // Discards and scars: blocks that change without bytes.
-ghost use Rattle.std.specs.Prelude.{◌≡◌, ◌+◌, ◌*◌, ◌<◌, ◌≤◌, ◌++◌, All, IsTrue, OnOk, [], ◌∷◌, false, length, sum_by};
-ghost use Rattle.std.specs.Result.{is_ok};
+ghost use Rattle.std.specs.Prelude.{◌≡◌, ◌+◌, ◌*◌, ◌<◌, ◌≤◌, ◌++◌, All, [], ◌∷◌, false, length, sum_by};
 ghost use Rattle.arrayvec.specs.ArrayVec.{array_vec_len};
 ghost use Rattle.nvm_base.specs.declared.units.Span.{Span as Stretch};
-ghost use Rattle.line_device.specs.Panel.{Runs};
-ghost use Rattle.line_words.specs.Words.{WritesBackBeside};
-ghost use Rattle.line_words.specs.Ending.{ended};
 ghost use Rattle.word_log.specs.Changes.{commit_calls, commit_persists};
 ghost use Rattle.nvm_model.specs.Storage.Block.{Absent, Scarred};
 ghost use Rattle.nvm_model.specs.Blocks.{IsMixed, change};
-ghost use Rattle.block_device.specs.Area.{IsBlockLine};
-ghost use Rattle.block_device.specs.Object.{BlocksServe, HasGoodMetadata, blocks_of, is_at};
+ghost use Rattle.block_device.specs.Object.{HasGoodMetadata, is_at};
 ghost use Rattle.block_device.specs.Changes.{bare_block, changes_in};
-ghost use Rattle.block_device.specs.Refusals.{Answers, OnRefused, OnWorked, block_outcome, change_refusal, hint_refusal};
-ghost use Rattle.line_words.specs.Told.{is_done};
-ghost use Rattle.block_device.specs.Images.{EachReads, IsEither};
+ghost use Rattle.block_device.specs.Refusals.{change_refusal, hint_refusal};
+ghost use Rattle.block_device.specs.Images.{IsEither};
 ghost use Rattle.block_device.specs.Prepared.{AreTogether};
+ghost use Rattle.block_device.specs.Calls.{AreReady, ChangesBlocks, WorksOnBlocks};
 
 use crate::change::Change;
 use crate::checks::{check_meta, check_spans, check_together};
@@ -29,62 +24,31 @@ use nvm_base::Span;
 impl Blocks {
     /// Makes blocks absent, all of them or none.
     pub fn discard_now<L: Lines>(&mut self, dev: &mut L, blocks: Span) -> Result<(), BlockFault>
-        requires serves { BlocksServe self.old (L.state dev.old).medium }
-        requires settled { IsTrue self.old.settled }
-        requires on { IsTrue (L.state dev.old).panel.power }
-        ensures refused { Answers (change_refusal self.old (L.state dev.old).medium (blocks ∷ [])) result }
-        ensures untouched { OnRefused result ((self.new ≡ self.old) × (dev.new ≡ dev.old)) }
-        ensures ok { OnOk result (blocks_of self.new (L.state dev.new).medium
-            ≡ change (blocks ∷ []) Absent (blocks_of self.old (L.state dev.old).medium)) }
-        ensures images { OnWorked result (EachReads self.old.geo (L.state dev.new).medium
-            (IsEither (blocks_of self.old (L.state dev.old).medium)
-            (change (blocks ∷ []) Absent (blocks_of self.old (L.state dev.old).medium)))) }
-        ensures outside { WritesBackBeside (IsBlockLine self.old.geo) (L.state dev.old).medium (L.state dev.new).medium }
-        ensures serves { IsTrue self.new.settled → BlocksServe self.new (L.state dev.new).medium }
-        ensures object { (self.new.geo ≡ self.old.geo) × (self.new.settled ≡ is_done (block_outcome result)) }
-        ensures runs { Runs (commit_calls 64) (commit_persists 64) (block_outcome result) (L.state dev.old).panel (L.state dev.new).panel }
+        requires ready { AreReady self.old (L.state dev.old) }
+        ensures changes { ChangesBlocks L.state self.old self.new dev.old dev.new result
+            (change_refusal self.old (L.state dev.old).medium (blocks ∷ []))
+            (change (blocks ∷ []) Absent) IsEither (commit_calls 64) (commit_persists 64) }
     {
         self.change_together(dev, &[blocks], BlockState::Absent)
     }
 
     /// Makes the blocks of spans unreadable, all of them or none.
     pub fn scar<L: Lines>(&mut self, dev: &mut L, spans: &[Span]) -> Result<(), BlockFault>
-        requires serves { BlocksServe self.old (L.state dev.old).medium }
-        requires settled { IsTrue self.old.settled }
-        requires on { IsTrue (L.state dev.old).panel.power }
+        requires ready { AreReady self.old (L.state dev.old) }
         requires some { 0 < length spans.now }
-        ensures refused { Answers (change_refusal self.old (L.state dev.old).medium spans.now) result }
-        ensures untouched { OnRefused result ((self.new ≡ self.old) × (dev.new ≡ dev.old)) }
-        ensures ok { OnOk result (blocks_of self.new (L.state dev.new).medium
-            ≡ change spans.now Scarred (blocks_of self.old (L.state dev.old).medium)) }
-        ensures images { OnWorked result (EachReads self.old.geo (L.state dev.new).medium
-            (IsEither (blocks_of self.old (L.state dev.old).medium)
-            (change spans.now Scarred (blocks_of self.old (L.state dev.old).medium)))) }
-        ensures outside { WritesBackBeside (IsBlockLine self.old.geo) (L.state dev.old).medium (L.state dev.new).medium }
-        ensures serves { IsTrue self.new.settled → BlocksServe self.new (L.state dev.new).medium }
-        ensures object { (self.new.geo ≡ self.old.geo) × (self.new.settled ≡ is_done (block_outcome result)) }
-        ensures runs { Runs (commit_calls 64) (commit_persists 64) (block_outcome result) (L.state dev.old).panel (L.state dev.new).panel }
+        ensures changes { ChangesBlocks L.state self.old self.new dev.old dev.new result
+            (change_refusal self.old (L.state dev.old).medium spans.now)
+            (change spans.now Scarred) IsEither (commit_calls 64) (commit_persists 64) }
     {
         self.change_together(dev, spans, BlockState::Scarred)
     }
 
     /// Makes blocks absent, one after the other: wherever the power goes, each is as it was or absent.
     pub fn discard_hint<L: Lines>(&mut self, dev: &mut L, blocks: Span) -> Result<(), BlockFault>
-        requires serves { BlocksServe self.old (L.state dev.old).medium }
-        requires settled { IsTrue self.old.settled }
-        requires on { IsTrue (L.state dev.old).panel.power }
-        ensures refused { Answers (hint_refusal self.old (L.state dev.old).medium blocks) result }
-        ensures untouched { OnRefused result ((self.new ≡ self.old) × (dev.new ≡ dev.old)) }
-        ensures ok { OnOk result (blocks_of self.new (L.state dev.new).medium
-            ≡ change (blocks ∷ []) Absent (blocks_of self.old (L.state dev.old).medium)) }
-        ensures images { OnWorked result (EachReads self.old.geo (L.state dev.new).medium
-            (IsMixed (blocks_of self.old (L.state dev.old).medium)
-            (change (blocks ∷ []) Absent (blocks_of self.old (L.state dev.old).medium)))) }
-        ensures outside { WritesBackBeside (IsBlockLine self.old.geo) (L.state dev.old).medium (L.state dev.new).medium }
-        ensures serves { IsTrue self.new.settled → BlocksServe self.new (L.state dev.new).medium }
-        ensures object { (self.new.geo ≡ self.old.geo) × (self.new.settled ≡ is_done (block_outcome result)) }
-        ensures runs { Runs (11 * blocks.len) (5 * blocks.len) (block_outcome result)
-            (L.state dev.old).panel (L.state dev.new).panel }
+        requires ready { AreReady self.old (L.state dev.old) }
+        ensures changes { ChangesBlocks L.state self.old self.new dev.old dev.new result
+            (hint_refusal self.old (L.state dev.old).medium blocks)
+            (change (blocks ∷ []) Absent) IsMixed (11 * blocks.len) (5 * blocks.len) }
     {
         check_spans(self.geo.blocks, &[blocks])?;
         check_meta(dev, self.geo)?;
@@ -105,22 +69,12 @@ impl Blocks {
         spans: &[Span],
         state: BlockState,
     ) -> Result<(), BlockFault>
-        requires serves { BlocksServe self.old (L.state dev.old).medium }
-        requires settled { IsTrue self.old.settled }
-        requires on { IsTrue (L.state dev.old).panel.power }
+        requires ready { AreReady self.old (L.state dev.old) }
         requires some { 0 < length spans.now }
         requires bare { is_at state ≡ false }
-        ensures refused { Answers (change_refusal self.old (L.state dev.old).medium spans.now) result }
-        ensures untouched { OnRefused result ((self.new ≡ self.old) × (dev.new ≡ dev.old)) }
-        ensures ok { OnOk result (blocks_of self.new (L.state dev.new).medium
-            ≡ change spans.now (bare_block state) (blocks_of self.old (L.state dev.old).medium)) }
-        ensures images { OnWorked result (EachReads self.old.geo (L.state dev.new).medium
-            (IsEither (blocks_of self.old (L.state dev.old).medium)
-            (change spans.now (bare_block state) (blocks_of self.old (L.state dev.old).medium)))) }
-        ensures outside { WritesBackBeside (IsBlockLine self.old.geo) (L.state dev.old).medium (L.state dev.new).medium }
-        ensures serves { IsTrue self.new.settled → BlocksServe self.new (L.state dev.new).medium }
-        ensures object { (self.new.geo ≡ self.old.geo) × (self.new.settled ≡ is_done (block_outcome result)) }
-        ensures runs { Runs (commit_calls 64) (commit_persists 64) (block_outcome result) (L.state dev.old).panel (L.state dev.new).panel }
+        ensures changes { ChangesBlocks L.state self.old self.new dev.old dev.new result
+            (change_refusal self.old (L.state dev.old).medium spans.now)
+            (change spans.now (bare_block state)) IsEither (commit_calls 64) (commit_persists 64) }
     {
         check_together(self.geo.blocks, spans)?;
         check_meta(dev, self.geo)?;
@@ -135,23 +89,14 @@ impl Blocks {
         spans: &[Span],
         state: BlockState,
     ) -> Result<(), Interruption>
-        requires serves { BlocksServe self.old (L.state dev.old).medium }
-        requires settled { IsTrue self.old.settled }
-        requires on { IsTrue (L.state dev.old).panel.power }
+        requires ready { AreReady self.old (L.state dev.old) }
         requires good { HasGoodMetadata self.old.geo (L.state dev.old).medium }
         requires some { 0 < length spans.now }
         requires together { AreTogether self.old.geo.blocks spans.now }
         requires bare { is_at state ≡ false }
-        ensures ok { OnOk result (blocks_of self.new (L.state dev.new).medium
-            ≡ change spans.now (bare_block state) (blocks_of self.old (L.state dev.old).medium)) }
-        ensures images { EachReads self.old.geo (L.state dev.new).medium
-            (IsEither (blocks_of self.old (L.state dev.old).medium)
-            (change spans.now (bare_block state) (blocks_of self.old (L.state dev.old).medium))) }
-        ensures outside { WritesBackBeside (IsBlockLine self.old.geo) (L.state dev.old).medium (L.state dev.new).medium }
-        ensures serves { OnOk result (BlocksServe self.new (L.state dev.new).medium) }
-        ensures object { (self.new.geo ≡ self.old.geo) × (self.new.settled ≡ is_ok result) }
-        ensures runs { Runs (commit_calls (sum_by (λ (s : Stretch). s.len) spans.now)) (commit_persists (sum_by (λ (s : Stretch). s.len) spans.now))
-            (ended result) (L.state dev.old).panel (L.state dev.new).panel }
+        ensures works { WorksOnBlocks L.state self.old self.new dev.old dev.new result
+            (change spans.now (bare_block state)) IsEither
+            (commit_calls (sum_by (λ (s : Stretch). s.len) spans.now)) (commit_persists (sum_by (λ (s : Stretch). s.len) spans.now)) }
     {
         let _ = &self.geo;
         let changes = changes_of(spans, state);

@@ -1,16 +1,14 @@
 // Mounting, in two parts: the device's replays the log and reads the map's words, and the other judges them without the
 // device.
 ghost use Rattle.std.specs.Prelude.{◌≡◌, ◌+◌, ◌/◌, ◌<◌, ◌≤◌, true, IfOk, IsTrue, length, map};
-ghost use Rattle.line_device.specs.Medium.{WritesBack, last_image};
+ghost use Rattle.line_device.specs.Medium.{last_image};
 ghost use Rattle.line_device.specs.Panel.{Runs};
 ghost use Rattle.line_device.specs.Panel.Outcome.{went};
 ghost use Rattle.word_tables.specs.Bounds.{IsValid};
 ghost use Rattle.word_tables.specs.Layout.{total_lines};
-ghost use Rattle.line_words.specs.Words.{WritesBackOutside};
 ghost use Rattle.line_words.specs.Told.{outcome_by};
-ghost use Rattle.word_log.specs.Area.{IsOf, IsWhole, gate_place};
-ghost use Rattle.word_log.specs.Mount.{LeavesWrong};
-ghost use Rattle.word_log.specs.Rest.{EachImage, IsReached};
+ghost use Rattle.word_log.specs.Area.{IsWhole};
+ghost use Rattle.word_log.specs.Leaving.{LeavesLog};
 ghost use Rattle.block_map.specs.States.{word_of};
 ghost use Rattle.block_device.specs.Area.{block_area};
 ghost use Rattle.block_device.specs.Reading.{states_read, blocks_read};
@@ -37,13 +35,9 @@ impl Blocks {
         ensures ok { IfOk result (λ blocks. (blocks.geo ≡ geo) × (blocks_of blocks (L.state dev.new).medium
             ≡ blocks_read geo (L.state dev.old).medium.is_bad (last_image (L.state dev.old).medium))) }
         ensures finds { FindsBlocks geo (L.state dev.old).medium result }
-        ensures images { EachImage (block_area geo) (L.state dev.new).medium (IsReached (block_area geo) (L.state dev.old).medium) }
-        ensures refused { LeavesWrong (block_area geo) (L.state dev.old).medium (L.state dev.new).medium }
+        ensures leaves { LeavesLog (block_area geo) (L.state dev.old).medium (L.state dev.new).medium }
         ensures reads { IsWhole (block_area geo) (L.state dev.old).medium
             → KeepsReads geo (L.state dev.old).medium (L.state dev.new).medium }
-        ensures closed { last_image (L.state dev.old).medium (gate_place (block_area geo)) ≡ 0
-            → WritesBack (L.state dev.old).medium (L.state dev.new).medium }
-        ensures outside { WritesBackOutside (IsOf (block_area geo)) (L.state dev.old).medium (L.state dev.new).medium }
         ensures serves { IfOk result (λ blocks.
             AreDurable geo (L.state dev.old).medium (states_read geo (last_image (L.state dev.old).medium))
             → BlocksServe blocks (L.state dev.new).medium) }

@@ -4,12 +4,12 @@ ghost use Rattle.line_device.specs.Medium.{IsHealthy, WritesBack, last_image};
 ghost use Rattle.line_device.specs.Panel.{Runs};
 ghost use Rattle.line_words.specs.Ending.{ended};
 ghost use Rattle.nvm_model.specs.Blocks.{first_obstacle, look_blocks, nth, obstacle_in};
-ghost use Rattle.nvm_model.specs.Numbered.{AreMixed};
 ghost use Rattle.block_device.specs.Reading.{bytes_read};
 ghost use Rattle.block_device.specs.Object.{BlocksServe, blocks_of};
 ghost use Rattle.block_device.specs.Refusals.{Answers, Checks, Obstructs, OnRefused, block_outcome, read_refusal};
 ghost use Rattle.line_words.specs.Told.{is_done};
 ghost use Rattle.block_device.specs.Refusals.Refusal.{Unreadable};
+ghost use Rattle.block_device.specs.Calls.{AreReady, FillsBuffer};
 
 use crate::checks::check_bytes;
 use crate::{BlockFault, Blocks};
@@ -30,18 +30,13 @@ impl Blocks {
         block: u64,
         out: &mut [u8],
     ) -> Result<(), BlockFault>
-        requires serves { BlocksServe self.old (L.state dev.old).medium }
-        requires settled { IsTrue self.old.settled }
-        requires on { IsTrue (L.state dev.old).panel.power }
+        requires ready { AreReady self.old (L.state dev.old) }
         ensures refused { Answers (read_refusal self.old (L.state dev.old).medium block (length out.old)) result }
         ensures untouched { OnRefused result ((out.new ≡ out.old) × (dev.new ≡ dev.old)) }
-        ensures ok { OnOk result (out.new ≡ look_blocks (blocks_of self.old (L.state dev.old).medium) block (length out.old / 512)) }
-        ensures err { OnErr result (AreMixed ℕ out.old
-            (look_blocks (blocks_of self.old (L.state dev.old).medium) block (length out.old / 512)) out.new) }
-        ensures lines { WritesBack (L.state dev.old).medium (L.state dev.new).medium }
+        ensures fills { FillsBuffer (L.state dev.old) (L.state dev.new) out.old out.new result (block_outcome result)
+            (look_blocks (blocks_of self.old (L.state dev.old).medium) block (length out.old / 512)) (length out.old / 64) }
         ensures serves { BlocksServe self.new (L.state dev.new).medium }
         ensures object { self.new ≡ record self.old { settled = is_done (block_outcome result) } }
-        ensures runs { Runs (length out.old / 64) 0 (block_outcome result) (L.state dev.old).panel (L.state dev.new).panel }
     {
         check_bytes(self.geo.blocks, block, out.len() as u64)?;
         self.check_readable(dev, block, out.len() as u64 / BLOCK)?;
@@ -95,11 +90,8 @@ impl Blocks {
         requires few { self.now.geo.blocks ≤ 4096 }
         requires within { block + length out.old / 512 ≤ self.now.geo.blocks }
         requires readable { first_obstacle (blocks_of self.now (L.state dev.old).medium) block (length out.old / 512) ≡ None }
-        ensures ok { OnOk result (out.new ≡ look_blocks (blocks_of self.now (L.state dev.old).medium) block (length out.old / 512)) }
-        ensures err { OnErr result (AreMixed ℕ out.old
-            (look_blocks (blocks_of self.now (L.state dev.old).medium) block (length out.old / 512)) out.new) }
-        ensures lines { WritesBack (L.state dev.old).medium (L.state dev.new).medium }
-        ensures runs { Runs (length out.old / 64) 0 (ended result) (L.state dev.old).panel (L.state dev.new).panel }
+        ensures fills { FillsBuffer (L.state dev.old) (L.state dev.new) out.old out.new result (ended result)
+            (look_blocks (blocks_of self.now (L.state dev.old).medium) block (length out.old / 512)) (length out.old / 64) }
     {
         let size = BLOCK as usize;
         for k in 0..out.len() / size {
@@ -121,12 +113,8 @@ impl Blocks {
         requires block { block < self.now.geo.blocks }
         requires within { at + 512 ≤ length out.old }
         requires readable { obstacle_in block (nth (blocks_of self.now (L.state dev.old).medium) block) ≡ None }
-        ensures ok { OnOk result (out.new ≡ take at out.old
-            ++ look_blocks (blocks_of self.now (L.state dev.old).medium) block 1 ++ drop (at + 512) out.old) }
-        ensures err { OnErr result (AreMixed ℕ out.old (take at out.old
-            ++ look_blocks (blocks_of self.now (L.state dev.old).medium) block 1 ++ drop (at + 512) out.old) out.new) }
-        ensures lines { WritesBack (L.state dev.old).medium (L.state dev.new).medium }
-        ensures runs { Runs 8 0 (ended result) (L.state dev.old).panel (L.state dev.new).panel }
+        ensures fills { FillsBuffer (L.state dev.old) (L.state dev.new) out.old out.new result (ended result)
+            (take at out.old ++ look_blocks (blocks_of self.now (L.state dev.old).medium) block 1 ++ drop (at + 512) out.old) 8 }
     {
         match self.map.get(block) {
             BlockState::At(unit) => {
@@ -149,10 +137,8 @@ fn load_unit<L: Lines>(dev: &mut L, first: u64, out: &mut [u8]) -> Result<(), In
     requires healthy { (k : ℕ) → k < 8 → IsHealthy (L.state dev.old).medium (first + k) }
     requires on { IsTrue (L.state dev.old).panel.power }
     requires length { length out.old ≡ 512 }
-    ensures ok { OnOk result (out.new ≡ bytes_read (last_image (L.state dev.old).medium) (64 * first) 512) }
-    ensures err { OnErr result (AreMixed ℕ out.old (bytes_read (last_image (L.state dev.old).medium) (64 * first) 512) out.new) }
-    ensures lines { WritesBack (L.state dev.old).medium (L.state dev.new).medium }
-    ensures runs { Runs 8 0 (ended result) (L.state dev.old).panel (L.state dev.new).panel }
+    ensures fills { FillsBuffer (L.state dev.old) (L.state dev.new) out.old out.new result (ended result)
+        (bytes_read (last_image (L.state dev.old).medium) (64 * first) 512) 8 }
 {
     for k in 0..UNIT_LINES {
         load_at(dev, first + k, out, (LINE * k) as usize)?;
