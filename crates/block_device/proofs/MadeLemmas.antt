@@ -1,29 +1,27 @@
 -- Blocks prepared one after the other, and made together.
-use Rattle.std.proofs.Common.{Result, Ok, Err, OnOk, IsTrue, ◌≡◌, inl, ℕ, zero, suc, false, ◌||◌, ◌==◌, ◌+◌, ◌≤◌, List, [], ◌∷◌, ◌++◌, length, refl, sym, ◌∙◌, ap, ap₂, subst, arith, length-append, append_assoc}
+use Rattle.std.proofs.Common.{IsTrue, ◌≡◌, inl, ℕ, zero, suc, false, ◌||◌, ◌==◌, ◌+◌, ◌≤◌, List, [], ◌∷◌, ◌++◌, length, refl, sym, ◌∙◌, ap, ap₂, subst, arith, length-append, append_assoc}
 use Rattle.std.specs.List.{list_any}
 use Rattle.std.proofs.lemmas.Bool.{ne_eqb, or_from}
 use Rattle.std.proofs.lemmas.List.{length-map}
 use Rattle.std.proofs.lemmas.List.Folds.{list_any-append}
-use Rattle.line_device.specs.Medium.{Medium, last_image}
-use Rattle.line_words.specs.Words.{WritesBackBeside, WritesBackOutside}
-use Rattle.line_words.proofs.BesideLemmas.{beside-refl, beside-trans, beside-outside}
+use Rattle.line_device.specs.Device.{Device}
+use Rattle.line_device.specs.Medium.{Medium}
+use Rattle.line_words.specs.Words.{WritesBackBeside}
+use Rattle.line_words.proofs.BesideLemmas.{beside-refl, beside-trans}
 use Rattle.word_log.specs.declared.area.LogArea.{LogArea}
-use Rattle.word_log.specs.Area.{IsOf}
 use Rattle.nvm_model.specs.Numbered.{list_from}
 use Rattle.nvm_model.specs.Storage.{Block}
 use Rattle.nvm_model.proofs.NumberedLemmas.{length-list_from}
 use Rattle.block_device.specs.declared.change.Change.{Change}
-use Rattle.block_device.specs.Area.{block_area, IsBlockLine}
+use Rattle.block_device.specs.Calls.{AreReady, MayPrepare}
+use Rattle.block_device.specs.Area.{IsBlockLine}
 use Rattle.block_device.specs.Object.{BlocksState, IsKept, BlocksServe, HasGoodMetadata, blocks_of}
-use Rattle.block_device.specs.Reading.{map_read}
 use Rattle.block_device.specs.Images.{EachReads, IsEither}
-use Rattle.block_device.specs.Changes.{changed_map, names}
+use Rattle.block_device.specs.Changes.{names}
 use Rattle.block_device.specs.Prepared.{ArePrepared, AreAsBefore, blocks_with, numbers_of}
-use Rattle.block_device.proofs.ReadLemmas.{map_read-outside}
-use Rattle.block_device.proofs.PlaceLemmas.{area_is_block, named_apart}
 use Rattle.block_device.proofs.ImageLemmas.{each_reads-then, served_reads}
-use Rattle.block_device.proofs.ChangeLemmas.{is_map-changed, length-changed_map}
 use Rattle.block_device.proofs.SpanLemmas.{list_from-push}
+use Rattle.block_device.proofs.ServesLemmas.{serves_settled}
 use Rattle.block_device.proofs.UnitsOfLemmas.{taken_none}
 
 pub before-refl : (s : BlocksState) (m : Medium) → BlocksServe s m → HasGoodMetadata s.geo m → s.settled ≡ false → AreAsBefore s s m m
@@ -91,14 +89,22 @@ module _ (cs before : List Change) (block k : ℕ) (is : numbers_of cs ≡ numbe
       ∙ ap (λ xs. numbers_of before ++ xs) (sym (list_from-push (λ b. b) block k))
 
 -- blocks that are settled, before the first change is prepared
-pub none_prepared : (v s : BlocksState) (area : LogArea) (m : Medium) (cs : List Change) → v ≡ s → IsKept v area → BlocksServe s m → IsTrue s.settled → cs ≡ [] → ArePrepared (record v { settled = false }) m cs
-none_prepared v s area m cs same kept serves settled none =
-    subst (ArePrepared (record v { settled = false }) m) (sym none) (record {
-      may = tt;
-      taken = taken_none v.free;
-      in_step = kept.in_step (subst (λ (z : BlocksState). IsTrue z.settled) (sym same) settled);
-      durable = (subst (λ z. BlocksServe z m) (sym same) serves).durable;
-    })
+pub may_begin : (v s : BlocksState) (area : LogArea) (d : Device) (cs : List Change) → v ≡ s → IsKept v area → AreReady s d → HasGoodMetadata s.geo d.medium → cs ≡ [] → MayPrepare (record v { settled = false }) d cs
+may_begin v s area d cs same kept ready good none =
+    let serves : BlocksServe v d.medium = subst (λ z. BlocksServe z d.medium) (sym same) ready.serves in
+    record {
+      serves = serves_settled v d.medium false serves;
+      unsettled = refl;
+      on = ready.on;
+      good = subst (λ (z : BlocksState). HasGoodMetadata z.geo d.medium) (sym same) good;
+      prepared =
+          subst (ArePrepared (record v { settled = false }) d.medium) (sym none) (record {
+            may = tt;
+            taken = taken_none v.free;
+            in_step = kept.in_step (subst (λ (z : BlocksState). IsTrue z.settled) (sym same) ready.settled);
+            durable = serves.durable;
+          });
+    }
 
 pub none_with : (v s : BlocksState) (m : Medium) (cs : List Change) → v ≡ s → cs ≡ [] → blocks_with cs (record v { settled = false }) m ≡ blocks_of s m
 none_with v s m cs same none = ap (λ ds. blocks_with ds v m) none ∙ ap (λ z. blocks_of z m) same

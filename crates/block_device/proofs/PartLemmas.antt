@@ -1,19 +1,12 @@
 -- Blocks that are given to some numbers, one after the other.
-use Rattle.std.proofs.Common.{◌≡◌, ◌⊎◌, inl, inr, ℕ, zero, suc, true, false, ◌||◌, ◌+◌, ◌<◌, ◌≤◌, List, [], ◌∷◌, if◌then◌else◌, get_or, refl, sym, ◌∙◌, ap, ap₂, subst, arith}
+use Rattle.std.proofs.Common.{◌≡◌, ◌⊎◌, inl, inr, ℕ, zero, suc, true, false, ◌||◌, ◌+◌, ◌≤◌, List, [], ◌∷◌, if◌then◌else◌, get_or, refl, sym, ◌∙◌, ap, ap₂, arith}
 use Rattle.std.proofs.lemmas.Bool.{cases_Bool}
 use Rattle.std.proofs.lemmas.Bool.Decides.{nat_tests}
-use Rattle.line_device.specs.Medium.{Medium}
-use Rattle.line_words.specs.Words.{WritesBackBeside}
-use Rattle.line_words.proofs.BesideLemmas.{beside-refl, beside-trans}
 use Rattle.nvm_model.specs.Numbered.{is_among, map_from}
 use Rattle.nvm_model.specs.Storage.{Block}
 use Rattle.nvm_model.specs.Storage.Block.{Absent}
 use Rattle.nvm_model.specs.Blocks.{IsMixed, change, change_block}
 use Rattle.nvm_model.proofs.NumberedLemmas.{length-map_from}
-use Rattle.block_device.specs.Area.{IsBlockLine}
-use Rattle.block_device.specs.Object.{BlocksState, BlocksServe, HasGoodMetadata, blocks_of}
-use Rattle.block_device.specs.Images.{EachReads, IsEither}
-use Rattle.block_device.proofs.ImageLemmas.{each_reads-then, served_reads}
 
 -- so many numbers from one on get the block of their number
 abbrev pub given_block : (ℕ → Block) → ℕ → ℕ → ℕ → Block → Block

@@ -22,7 +22,7 @@ use Rattle.nvm_model.specs.Blocks.{data_from, write}
 use Rattle.block_device.specs.declared.change.Change.{Change}
 use Rattle.block_device.specs.Area.{IsBlockLine}
 use Rattle.block_device.specs.Calls.{MayPrepare, PreparesBlocks}
-use Rattle.block_device.specs.Object.{BlocksState, IsInStep, BlocksServe, AreDurable, HasGoodMetadata, unit_on}
+use Rattle.block_device.specs.Object.{BlocksState, IsInStep, BlocksServe, AreDurable, unit_on}
 use Rattle.block_device.specs.Reading.{block_read, map_read}
 use Rattle.block_device.specs.Changes.{MayChange, AreTaken, changed_map, is_on, names, takes, units_in, units_named}
 use Rattle.block_device.specs.Prepared.{ArePrepared, AreAsBefore, blocks_with, numbers_of}

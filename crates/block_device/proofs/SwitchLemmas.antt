@@ -158,6 +158,9 @@ module _ (s : BlocksState) (area : LogArea) (old : Medium) (cs : List Change) (r
               (image_reads (changed_map cs s.map) image changed_all (is_map-changed cs s.map ready.prepared.may ready.kept.is_map) ready.prepared.durable is now)
         ]
 
+    pub switch-outside : WritesBackOutside (IsOf (block_area s.geo)) old new
+    switch-outside = subst (λ a. WritesBackOutside (IsOf a) old new) ready.kept.area x
+
     -- after it the device is the one of the new map
     pub switch-serves : (words : List (ℕ × ℕ)) (t : BlocksState) → words ≡ word_changes s.geo cs → t.geo ≡ s.geo → t.map ≡ changed_map cs s.map → ChangesRest area old new words → BlocksServe t new
     switch-serves words t named geo map rests =

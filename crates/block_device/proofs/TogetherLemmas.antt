@@ -3,6 +3,7 @@ use Rattle.std.proofs.Common.{◌≡◌, ℕ, false, ◌<◌, ◌+◌, List, [],
 use Rattle.std.proofs.lemmas.Bool.{le-ltb, or_from}
 use Rattle.std.specs.List.{list_any}
 use Rattle.nvm_base.specs.declared.units.Span.{Span}
+use Rattle.line_device.specs.Device.{Device}
 use Rattle.line_device.specs.Medium.{Medium, last_image}
 use Rattle.line_words.specs.Words.{WritesBackOutside, WritesBackBeside}
 use Rattle.line_words.proofs.BesideLemmas.{beside-outside}
@@ -13,11 +14,12 @@ use Rattle.word_log.specs.Area.{IsOf}
 use Rattle.nvm_model.specs.Blocks.{change}
 use Rattle.block_map.specs.declared.state.BlockState.{BlockState}
 use Rattle.block_device.specs.declared.change.Change.{Change}
+use Rattle.block_device.specs.Calls.{AreReady}
 use Rattle.block_device.specs.Area.{block_area, IsBlockLine}
 use Rattle.block_device.specs.Reading.{map_read}
 use Rattle.block_device.specs.Object.{BlocksState, IsKept, BlocksServe, AreDurable, HasGoodMetadata, IsInStep, blocks_of, is_at}
 use Rattle.block_device.specs.Changes.{bare_block, changed_map, changes_in, units_named, MayChange, AreTaken}
-use Rattle.block_device.specs.Prepared.{AreTogether}
+use Rattle.block_device.specs.Prepared.{ArePrepared, AreTogether, blocks_with}
 use Rattle.block_device.specs.Images.{EachReads, IsEither}
 use Rattle.block_device.proofs.ReadLemmas.{map_read-outside}
 use Rattle.block_device.proofs.PlaceLemmas.{area_is_block, named_apart}

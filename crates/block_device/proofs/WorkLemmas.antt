@@ -1,5 +1,5 @@
 -- Work on blocks that nothing refuses: step by step, and by one switch.
-use Rattle.std.proofs.Common.{Result, Ok, Err, OnOk, ◌≡◌, inl, inr, ℕ, ◌+◌, ◌<◌, ◌≤◌, List, length, refl, sym, ◌∙◌, ap, subst, arith}
+use Rattle.std.proofs.Common.{Result, Ok, Err, IsErrAnd, OnOk, ◌≡◌, inl, inr, ℕ, ◌+◌, ◌<◌, ◌≤◌, List, length, refl, sym, ◌∙◌, ap, subst, arith}
 use Rattle.line_device.specs.Device.{Device}
 use Rattle.line_device.specs.Medium.{Medium, last_image}
 use Rattle.line_device.specs.Panel.{Runs}
@@ -11,6 +11,7 @@ use Rattle.line_words.specs.Words.{WritesBackBeside, WritesBackOutside}
 use Rattle.line_words.proofs.BesideLemmas.{beside-outside, beside-refl, beside-trans}
 use Rattle.word_log.specs.Area.{IsOf}
 use Rattle.word_log.specs.Changes.{commit_calls, commit_persists}
+use Rattle.word_log.proofs.AnswerLemmas.{is_fault}
 use Rattle.word_log.proofs.StepLemmas.{on_ok-then}
 use Rattle.nvm_model.specs.Storage.{Block}
 use Rattle.nvm_model.specs.Blocks.{IsMixed}
@@ -72,22 +73,23 @@ module _ {D : Type 0} (state : D → Device) where
         runs = runs-refl (state d).panel;
       }
 
-  -- one block more, of `n` in all: it is the last, or the work is stopped at it
-  pub works_more : (to : ℕ → Block) (at k n : ℕ) (s l t : BlocksState) (before mid after : D) (r : Result (Unit {0}) Interruption) (a b c d : ℕ) → k < n → OnOk r (n ≡ k + 1) → WorksOnBlocks state s l before mid (Ok tt) (given to at k) IsMixed a b
-      → WorksOnBlocks state l t mid after r (given to (at + k) 1) IsEither c d → WorksOnBlocks state s t before after r (given to at n) IsMixed (a + c) (b + d)
-  works_more to at k n s l t before mid after r a b c d less last work step =
+  -- One block more, by a call that makes `f`, of `n` in all, which make `h`: it is the last, or the work is stopped at it.
+  pub works_more : (to : ℕ → Block) (at k n : ℕ) (f h : List Block → List Block) (s l t : BlocksState) (before mid after : D) (r : Result (Unit {0}) Interruption) (a b c d calls persists : ℕ) → ((bs : List Block) → f bs ≡ given to (at + k) 1 bs) → ((bs : List Block) → given to at n bs ≡ h bs) → k < n → OnOk r (n ≡ k + 1)
+      → a + c ≤ calls → b + d ≤ persists → WorksOnBlocks state s l before mid (Ok tt) (given to at k) IsMixed a b → WorksOnBlocks state l t mid after r f IsEither c d → WorksOnBlocks state s t before after r h IsMixed calls persists
+  works_more to at k n f h s l t before mid after r a b c d calls persists one all less last few few_persists work step =
       let old = blocks_of s (state before).medium in
       let now = blocks_of l (state mid).medium in
-      let mixed = IsMixed old (given to at n old) in
-      let next : given to (at + k) 1 now ≡ given to at (k + 1) old = ap (given to (at + k) 1) work.ok ∙ given-next to at k old in
+      let mixed = IsMixed old (h old) in
+      let next : f now ≡ given to at (k + 1) old = one now ∙ ap (given to (at + k) 1) work.ok ∙ given-next to at k old in
+      let between : (m : ℕ) → m ≤ n → mixed (given to at m old) = λ m few. subst (λ bs. IsMixed old bs (given to at m old)) (all old) (given-mixed to at m n old few) in
       record {
-        ok = on_ok-both r step.ok last (λ made all. made ∙ next ∙ ap (λ m. given to at m old) (sym all));
+        ok = on_ok-both r step.ok last (λ made is. made ∙ next ∙ ap (λ m. given to at m old) (sym is) ∙ all old);
         images =
             subst (λ g. EachReads g (state after).medium mixed) work.object.0
-            (each_reads-then l.geo (state after).medium (IsEither now (given to (at + k) 1 now)) mixed
+            (each_reads-then l.geo (state after).medium (IsEither now (f now)) mixed
             (λ bs either. elim either as (λ _. mixed bs) [
-              | inl was ↦ subst mixed (sym (was ∙ work.ok)) (given-mixed to at k n old (omega arith))
-              | inr is ↦ subst mixed (sym (is ∙ next)) (given-mixed to at (k + 1) n old (omega arith))
+              | inl was ↦ subst mixed (sym (was ∙ work.ok)) (between k (omega arith))
+              | inr is ↦ subst mixed (sym (is ∙ next)) (between (k + 1) (omega arith))
             ])
             step.images);
         outside =
@@ -95,8 +97,13 @@ module _ {D : Type 0} (state : D → Device) where
             (subst (λ g. WritesBackBeside (IsBlockLine g) (state mid).medium (state after).medium) work.object.0 step.outside);
         serves = step.serves;
         object = (step.object.0 ∙ work.object.0, step.object.1);
-        runs = runs_then a b c d _ _ _ _ work.runs step.runs;
+        runs = runs_within _ _ calls persists _ _ _ (runs_then a b c d _ _ _ _ work.runs step.runs) few few_persists;
       }
+
+  -- a stop that is handed on
+  pub works_handed : (s t : BlocksState) (before after : D) (r : Result (Unit {0}) Interruption) (stop : Interruption) (to : List Block → List Block) (Between : List Block → List Block → List Block → Type 0) (calls persists : ℕ) → IsErrAnd r (λ e. e ≡ stop)
+      → WorksOnBlocks state s t before after (Err stop) to Between calls persists → WorksOnBlocks state s t before after r to Between calls persists
+  works_handed s t before after r stop to Between calls persists is work = subst (λ q. WorksOnBlocks state s t before after q to Between calls persists) (sym (is_fault r stop is)) work
 
   -- one switch makes all
   pub works_switched : (s t : BlocksState) (before after : D) (r : Result (Unit {0}) Interruption) (cs : List Change) (to : List Block → List Block) → BlocksServe s (state before).medium → MayChange s.map cs
@@ -128,13 +135,14 @@ module _ {D : Type 0} (state : D → Device) where
       }
 
   -- and the work was stopped then
-  pub works_stopped : (s t : BlocksState) (before after : D) (stop : Interruption) (to : List Block → List Block) (calls persists : ℕ) → AreAsBefore s t (state before).medium (state after).medium → Runs calls persists (stop_outcome stop) (state before).panel (state after).panel
-      → WorksOnBlocks state s t before after (Err stop) to IsEither calls persists
-  works_stopped s t before after stop to calls persists kept runs = record {
+  pub works_stopped : (s t : BlocksState) (before after : D) (r : Result (Unit {0}) Interruption) (stop : Interruption) (to : List Block → List Block) (calls persists : ℕ) → IsErrAnd r (λ e. e ≡ stop) → AreAsBefore s t (state before).medium (state after).medium
+      → Runs calls persists (stop_outcome stop) (state before).panel (state after).panel → WorksOnBlocks state s t before after r to IsEither calls persists
+  works_stopped s t before after (Ok x) stop to calls persists is kept runs = absurd is
+  works_stopped s t before after (Err e) stop to calls persists is kept runs = record {
     ok = tt;
     images = before-images s t _ _ (to (blocks_of s (state before).medium)) kept;
     outside = kept.outside;
     serves = tt;
     object = (kept.geo, kept.unsettled);
-    runs = runs;
+    runs = subst (λ o. Runs calls persists (stop_outcome o) (state before).panel (state after).panel) (sym is) runs;
   }

@@ -14,6 +14,7 @@ use nvm_base::{BLOCK, Span};
 
 impl Blocks {
     /// Writes whole blocks, one after the other: wherever the power goes, each has its old bytes or its new ones.
+    #[tactic(auto, using(crate::proofs::PassedLemmas::meta_passed))]
     pub fn write<L: Lines>(
         &mut self,
         dev: &mut L,

@@ -1,9 +1,10 @@
 -- A commit on blocks that are ready for it.
-use Rattle.std.proofs.Common.{sym, ◌∙◌, ap, subst, rules}
+use Rattle.std.proofs.Common.{sym, ◌∙◌, ap, subst, arith, rules}
+use Rattle.std.proofs.lemmas.Grind.{common_steps}
 use Rattle.block_device.specs.Object.{BlocksState}
 use Rattle.block_device.specs.Changes.{MayChange, changed_map, word_changes}
 use Rattle.block_device.proofs.ChangeLemmas.{within_from_may}
-use Rattle.block_device.proofs.SwitchLemmas.{ready_from, ready_usable, ready_taken, switch-images, switch-serves}
+use Rattle.block_device.proofs.SwitchLemmas.{ready_from, ready_usable, ready_taken, switch-images, switch-outside, switch-serves}
 use Rattle.block_device.proofs.Blocks.switch.Goals as goal
 
 pub word_changes-words-requires-clause-may : goal.word_changes-words-requires-clause-may
@@ -32,11 +33,11 @@ returns-in_err-commit g c =
       switches = record {
         ok = search rules;
         images = switch-images s area _ c.args.changes.now ready _ commit.outside c.as_slice.result.now words commit.images;
-        outside = ?;
+        outside = switch-outside s area _ c.args.changes.now ready _ commit.outside;
         serves = search rules;
         in_step = search rules;
-        object = ?;
-        runs = ?;
+        object = grind (arith, common_steps);
+        runs = grind (arith, common_steps);
       };
     }
 
@@ -50,16 +51,16 @@ returns g c =
     let commit = c.in_ok-commit.ensures.commits in
     record {
       switches = record {
-        ok = ?;
+        ok = grind (arith, common_steps);
         images = switch-images s area _ cs ready _ commit.outside c.as_slice.result.now words commit.images;
-        outside = ?;
+        outside = switch-outside s area _ cs ready _ commit.outside;
         serves =
             switch-serves s area _ cs ready _ commit.outside c.as_slice.result.now _ words
             (ap (λ (b : BlocksState). b.geo) c.self-2.view_is ∙ c.assign.ensures.others.0 ∙ ap (λ (b : BlocksState). b.geo) c.self.view_is)
             (ap (λ (b : BlocksState). b.map) c.self-2.view_is ∙ c.assign.ensures.map ∙ ap (λ (b : BlocksState). changed_map cs b.map) c.self.view_is)
             commit.ok;
-        in_step = ?;
-        object = ?;
-        runs = ?;
+        in_step = grind (arith, common_steps);
+        object = grind (arith, common_steps);
+        runs = grind (arith, common_steps);
       };
     }

@@ -1,75 +1,58 @@
-use Rattle.std.proofs.Common.{false, length, sym, subst, ◌∙◌, ap, arith}
-use Rattle.line_device.proofs.PanelLemmas.{runs_then, runs_within}
+use Rattle.std.proofs.Common.{◌≡◌, ◌+◌, ◌*◌, ◌/◌, length, sym, subst, ◌∙◌, ap, arith}
+use Rattle.line_device.proofs.PanelLemmas.{runs_within}
 use Rattle.nvm_model.specs.Blocks.{write_ranges}
-use Rattle.block_device.specs.Object.{BlocksServe}
+use Rattle.block_device.specs.Object.{blocks_of}
+use Rattle.block_device.specs.Images.{IsEither}
 use Rattle.block_device.specs.Prepared.{ArePrepared, blocks_with}
-use Rattle.block_device.proofs.ServesLemmas.{serves_settled}
-use Rattle.block_device.proofs.MadeLemmas.{before_from, before-images, none_prepared, none_with, made_ok, made_images, made_outside}
+use Rattle.block_device.proofs.MadeLemmas.{before_from, may_begin, none_with}
 use Rattle.block_device.proofs.ApartLemmas.{apart_count, apart_some, whole_size}
+use Rattle.block_device.proofs.WorkLemmas.{works_as, works_prepared, works_stopped, works_switched}
 use Rattle.block_device.proofs.Blocks.write_apart.Goals as goal
 
-pub prepare_ranges-requires-clause-serves : goal.prepare_ranges-requires-clause-serves
-prepare_ranges-requires-clause-serves g c =
-    serves_settled _ _ false (subst (λ s. BlocksServe s (g.L.Lines.state c.args.dev.now).medium) (sym c.self.view_is) c.requires.serves)
+pub prepare_ranges-requires-clause-may : goal.prepare_ranges-requires-clause-may
+prepare_ranges-requires-clause-may g c =
+    may_begin _ c.args.self.now _ (g.L.Lines.state c.args.dev.now) c.new-changes.result.items c.self.view_is c.self.invariant c.requires.ready c.requires.good c.new-changes.ensures
 
-pub prepare_ranges-requires-clause-prepared : goal.prepare_ranges-requires-clause-prepared
-prepare_ranges-requires-clause-prepared g c =
-    none_prepared _ c.args.self.now _ (g.L.Lines.state c.args.dev.now).medium c.new-changes.result.items c.self.view_is c.self.invariant c.requires.serves c.requires.settled c.new-changes.ensures
-
-pub returns-in_err-prepare_ranges-clause-images : goal.returns-in_err-prepare_ranges-clause-images
-returns-in_err-prepare_ranges-clause-images g c =
-    before-images c.args.self.now _ (g.L.Lines.state c.args.dev.now).medium (g.L.Lines.state c.prepare_ranges.new.dev).medium _
-    (before_from _ _ _ _ _ c.self.view_is c.prepare_ranges.ensures.before)
+pub returns-in_err-prepare_ranges : goal.returns-in_err-prepare_ranges
+returns-in_err-prepare_ranges g c =
+    let made = c.in_err-prepare_ranges.ensures.prepares in
+    record {
+      works =
+          works_stopped g.L.Lines.state c.args.self.now c.prepare_ranges.new.self c.args.dev.now c.prepare_ranges.new.dev c.from_residual.result c.in_err-prepare_ranges.field-0.0 (write_ranges c.args.ranges.now c.args.bytes.now) _ _ c.from_residual.ensures.1
+          (before_from _ c.args.self.now c.prepare_ranges.new.self _ _ c.self.view_is made.as_before) (runs_within _ _ _ _ _ _ _ made.runs (omega arith) (omega arith));
+    }
 
 pub switch-requires-clause-some : goal.switch-requires-clause-some
 switch-requires-clause-some g c =
-    let count = apart_count c.args.self.now.geo.blocks (length c.args.bytes.now) c.args.ranges.now _ c.as_slice.result.now c.as_slice.ensures.value c.requires.apart c.requires.bytes c.in_ok-prepare_ranges.ensures.numbers in
+    let count = apart_count c.args.self.now.geo.blocks (length c.args.bytes.now) c.args.ranges.now _ c.as_slice.result.now c.as_slice.ensures.value c.requires.apart c.requires.bytes c.in_ok-prepare_ranges.ensures.prepares.numbered in
     let some = apart_some c.args.ranges.now c.requires.some c.requires.apart.whole in
     let all = whole_size c.args.ranges.now c.requires.apart.whole in
     let is = c.requires.bytes in
     omega (arith, count, some, all, is)
 
-pub switch-requires-clause-durable : goal.switch-requires-clause-durable
-switch-requires-clause-durable g c =
-    (subst (ArePrepared c.prepare_ranges.new.self (g.L.Lines.state c.prepare_ranges.new.dev).medium) (sym c.as_slice.ensures.value) c.in_ok-prepare_ranges.ensures.prepared).durable
+pub switch-requires-clause-prepared : goal.switch-requires-clause-prepared
+switch-requires-clause-prepared g c = subst (ArePrepared c.prepare_ranges.new.self (g.L.Lines.state c.prepare_ranges.new.dev).medium) (sym c.as_slice.ensures.value) c.in_ok-prepare_ranges.ensures.prepares.prepared
 
-pub returns-clause-ok : goal.returns-clause-ok
-returns-clause-ok g c =
+pub returns : goal.returns
+returns g c =
+    let state = g.L.Lines.state in
     let s = c.args.self.now in
     let t = c.prepare_ranges.new.self in
-    let m = (g.L.Lines.state c.args.dev.now).medium in
-    let n = (g.L.Lines.state c.prepare_ranges.new.dev).medium in
-    let ds = c.as_slice.result.now in
-    made_ok s t m n ds (before_from _ s t m n c.self.view_is c.prepare_ranges.ensures.before)
-    (subst (ArePrepared t n) (sym c.as_slice.ensures.value) c.in_ok-prepare_ranges.ensures.prepared) _
-    (ap (λ es. blocks_with es t n) c.as_slice.ensures.value ∙ c.in_ok-prepare_ranges.ensures.written ∙ ap (write_ranges c.args.ranges.now c.args.bytes.now) (none_with _ s m c.new-changes.result.items c.self.view_is c.new-changes.ensures))
-    _ c.switch.ensures.outside c.switch.result c.switch.new.self c.switch.ensures.object.0 c.switch.ensures.ok
-
-pub returns-clause-images : goal.returns-clause-images
-returns-clause-images g c =
-    let s = c.args.self.now in
-    let t = c.prepare_ranges.new.self in
-    let m = (g.L.Lines.state c.args.dev.now).medium in
-    let n = (g.L.Lines.state c.prepare_ranges.new.dev).medium in
-    let ds = c.as_slice.result.now in
-    made_images s t m n ds (before_from _ s t m n c.self.view_is c.prepare_ranges.ensures.before)
-    (subst (ArePrepared t n) (sym c.as_slice.ensures.value) c.in_ok-prepare_ranges.ensures.prepared) _
-    (ap (λ es. blocks_with es t n) c.as_slice.ensures.value ∙ c.in_ok-prepare_ranges.ensures.written ∙ ap (write_ranges c.args.ranges.now c.args.bytes.now) (none_with _ s m c.new-changes.result.items c.self.view_is c.new-changes.ensures))
-    _ c.switch.ensures.outside c.switch.ensures.images
-
-pub returns-clause-outside : goal.returns-clause-outside
-returns-clause-outside g c =
-    let s = c.args.self.now in
-    let t = c.prepare_ranges.new.self in
-    let m = (g.L.Lines.state c.args.dev.now).medium in
-    let n = (g.L.Lines.state c.prepare_ranges.new.dev).medium in
-    let ds = c.as_slice.result.now in
-    made_outside s t m n ds (before_from _ s t m n c.self.view_is c.prepare_ranges.ensures.before)
-    (subst (ArePrepared t n) (sym c.as_slice.ensures.value) c.in_ok-prepare_ranges.ensures.prepared) _
-    (ap (λ es. blocks_with es t n) c.as_slice.ensures.value ∙ c.in_ok-prepare_ranges.ensures.written ∙ ap (write_ranges c.args.ranges.now c.args.bytes.now) (none_with _ s m c.new-changes.result.items c.self.view_is c.new-changes.ensures))
-    _ c.switch.ensures.outside
-
-pub returns-clause-runs : goal.returns-clause-runs
-returns-clause-runs g c =
-    let count = apart_count c.args.self.now.geo.blocks (length c.args.bytes.now) c.args.ranges.now _ c.as_slice.result.now c.as_slice.ensures.value c.requires.apart c.requires.bytes c.in_ok-prepare_ranges.ensures.numbers in
-    runs_within _ _ _ _ _ _ _ (runs_then _ _ _ _ _ _ _ _ c.in_ok-prepare_ranges.ensures.runs c.switch.ensures.runs) (omega (arith, count)) (omega (arith, count))
+    let mid = c.prepare_ranges.new.dev in
+    let cs = c.as_slice.result.now in
+    let to = write_ranges c.args.ranges.now c.args.bytes.now in
+    let made = c.in_ok-prepare_ranges.ensures.prepares in
+    let old = blocks_of s (state c.args.dev.now).medium in
+    let new = blocks_with cs t (state mid).medium in
+    let n = length c.args.bytes.now / 512 in
+    let same = c.as_slice.ensures.value in
+    let count = apart_count s.geo.blocks (length c.args.bytes.now) c.args.ranges.now _ cs same c.requires.apart c.requires.bytes made.numbered in
+    let may = (subst (ArePrepared t (state mid).medium) (sym same) made.prepared).may in
+    let is : new ≡ to old = ap (λ es. blocks_with es t (state mid).medium) same ∙ made.written ∙ ap to (none_with _ s (state c.args.dev.now).medium c.new-changes.result.items c.self.view_is c.new-changes.ensures) in
+    record {
+      works =
+          works_as state s c.switch.new.self c.args.dev.now c.switch.new.dev c.switch.result to to IsEither _ _ (29 * n + 6) (10 * n + 3) (λ bs i. to bs) (omega (arith, count)) (omega (arith, count))
+          (works_prepared state s t c.switch.new.self c.args.dev.now mid c.switch.new.dev c.switch.result (λ _. new) to _ _ _ _
+          (before_from _ s t _ _ c.self.view_is made.as_before) made.runs is
+          (works_switched state t c.switch.new.self mid c.switch.new.dev c.switch.result cs (λ _. new) made.as_before.serves may (λ i. new) c.switch.ensures.switches));
+    }

@@ -1,59 +1,37 @@
-use Rattle.std.proofs.Common.{◌/◌, length, refl, subst, ◌∙◌, arith}
-use Rattle.line_device.proofs.PanelLemmas.{runs-refl, runs_then, runs_within}
-use Rattle.nvm_model.specs.Blocks.{IsMixed}
-use Rattle.block_device.specs.Object.{blocks_of}
-use Rattle.block_device.specs.Images.{EachReads, IsEither}
-use Rattle.block_device.proofs.WriteLemmas.{blocks_in, piece_step, written-all}
-use Rattle.block_device.proofs.PartLemmas.{part_first, part_images, part_next, part_outside, part_rest}
+use Rattle.std.proofs.Common.{◌≡◌, ◌+◌, ◌*◌, ◌/◌, Ok, Err, length, refl, arith}
+use Rattle.nvm_model.specs.Blocks.{IsMixed, write}
+use Rattle.block_device.proofs.WriteLemmas.{blocks_in, piece_step, written, written-all}
+use Rattle.block_device.proofs.WorkLemmas.{works_as, works_handed, works_more, works_none}
 use Rattle.block_device.proofs.Blocks.write_blocks.Goals as goal
 
 pub loop-k-init : goal.loop-k-init
-loop-k-init g c = record { part = part_first (blocks_in c.args.block c.args.bytes.now) c.args.block _ _ c.requires.serves c.requires.settled; runs = runs-refl _ }
+loop-k-init g c = works_none g.L.Lines.state (blocks_in c.args.block c.args.bytes.now) c.args.block c.args.self.now c.args.dev.now c.requires.ready c.requires.good
 
-pub returns-in_err-write_apart-clause-images : goal.returns-in_err-write_apart-clause-images
-returns-in_err-write_apart-clause-images g c =
-    let s = c.args.self.now in
-    let now = c.loop-k.self in
-    let m = (g.L.Lines.state c.args.dev.now).medium in
-    let m' = (g.L.Lines.state c.loop-k.dev).medium in
-    let new = (g.L.Lines.state c.write_apart.new.dev).medium in
+pub returns-in_err-write_apart : goal.returns-in_err-write_apart
+returns-in_err-write_apart g c =
     let at = c.args.block in
     let bytes = c.args.bytes.now in
-    let to = blocks_in at bytes in
-    subst (λ bs. EachReads s.geo new (IsMixed (blocks_of s m) bs)) (written-all at (length bytes / 512) bytes (blocks_of s m) refl)
-    (part_images to at c.loop-k.k (length bytes / 512) s now m m' c.requires.good c.loop-k.invariant.part new (omega arith)
-    (subst (λ bs. EachReads now.geo new (IsEither (blocks_of now m') bs)) (piece_step at c.loop-k.k bytes (blocks_of now m') (omega arith)) c.in_err-write_apart.ensures.images))
-
-pub returns-in_err-write_apart-clause-outside : goal.returns-in_err-write_apart-clause-outside
-returns-in_err-write_apart-clause-outside g c =
-    part_outside (blocks_in c.args.block c.args.bytes.now) c.args.block c.loop-k.k 0 c.args.self.now c.loop-k.self _ _ c.requires.good c.loop-k.invariant.part _ c.in_err-write_apart.ensures.outside
+    let n = length bytes / 512 in
+    let stop = c.in_err-write_apart.field-0.0 in
+    record {
+      works =
+          works_handed g.L.Lines.state _ c.write_apart.new.self c.args.dev.now c.write_apart.new.dev c.from_residual.result stop (write at bytes) IsMixed _ _ c.from_residual.ensures.1
+          (works_more g.L.Lines.state (blocks_in at bytes) at c.loop-k.k n _ (write at bytes) c.args.self.now c.loop-k.self c.write_apart.new.self c.args.dev.now c.loop-k.dev c.write_apart.new.dev (Err stop) _ _ _ _ (35 * n) (13 * n)
+          (λ bs. piece_step at c.loop-k.k bytes bs (omega arith)) (λ bs. written-all at n bytes bs refl) (omega arith) tt (omega arith) (omega arith) c.loop-k.invariant c.in_err-write_apart.ensures.works);
+    }
 
 pub loop-k-preserved : goal.loop-k-preserved
 loop-k-preserved g c =
-    let s = c.args.self.now in
-    let now = c.loop-k.self in
-    let m = (g.L.Lines.state c.args.dev.now).medium in
-    let m' = (g.L.Lines.state c.loop-k.dev).medium in
     let at = c.args.block in
+    let k = c.loop-k.k in
     let bytes = c.args.bytes.now in
-    let after = c.in_ok-write_apart.ensures in
+    works_more g.L.Lines.state (blocks_in at bytes) at k (k + 1) _ (written at (k + 1) bytes) c.args.self.now c.loop-k.self c.write_apart.new.self c.args.dev.now c.loop-k.dev c.write_apart.new.dev (Ok tt) _ _ _ _ (35 * (k + 1)) (13 * (k + 1))
+    (λ bs. piece_step at k bytes bs (omega arith)) (λ bs. refl) (omega arith) refl (omega arith) (omega arith) c.loop-k.invariant c.in_ok-write_apart.ensures.works
+
+pub returns : goal.returns
+returns g c =
+    let all : c.loop-k.k ≡ length c.args.bytes.now / 512 = omega arith in
     record {
-      part =
-          part_next (blocks_in at bytes) at c.loop-k.k 0 s now m m' c.requires.good c.loop-k.invariant.part c.write_apart.new.self (g.L.Lines.state c.write_apart.new.dev).medium
-          (after.ok ∙ piece_step at c.loop-k.k bytes (blocks_of now m') (omega arith)) after.outside after.serves after.object.0 after.object.1;
-      runs = runs_within _ _ _ _ _ _ _ (runs_then _ _ _ _ _ _ _ _ c.loop-k.invariant.runs after.runs) (omega arith) (omega arith);
+      works =
+          works_as g.L.Lines.state c.args.self.now c.loop-k.self c.args.dev.now c.loop-k.dev (Ok tt) _ (write c.args.block c.args.bytes.now) IsMixed _ _ _ _ (λ bs. written-all c.args.block c.loop-k.k c.args.bytes.now bs all) (omega arith) (omega arith) c.loop-k.invariant;
     }
-
-pub returns-clause-ok : goal.returns-clause-ok
-returns-clause-ok g c =
-    c.loop-k.invariant.part.blocks ∙ written-all c.args.block c.loop-k.k c.args.bytes.now (blocks_of c.args.self.now (g.L.Lines.state c.args.dev.now).medium) (omega arith)
-
-pub returns-clause-images : goal.returns-clause-images
-returns-clause-images g c =
-    let s = c.args.self.now in
-    let m = (g.L.Lines.state c.args.dev.now).medium in
-    let m' = (g.L.Lines.state c.loop-k.dev).medium in
-    let at = c.args.block in
-    let bytes = c.args.bytes.now in
-    subst (λ bs. EachReads s.geo m' (IsMixed (blocks_of s m) bs)) (written-all at c.loop-k.k bytes (blocks_of s m) (omega arith))
-    (part_rest (blocks_in at bytes) at c.loop-k.k c.loop-k.k s c.loop-k.self m m' c.requires.good c.loop-k.invariant.part (omega arith))
