@@ -44,6 +44,7 @@ impl Blocks {
     }
 
     /// Makes blocks absent, one after the other: wherever the power goes, each is as it was or absent.
+    #[tactic(auto, using(crate::proofs::PassedLemmas::meta_passed))]
     pub fn discard_hint<L: Lines>(&mut self, dev: &mut L, blocks: Span) -> Result<(), BlockFault>
         requires ready { AreReady self.old (L.state dev.old) }
         ensures changes { ChangesBlocks L.state self.old self.new dev.old dev.new result
@@ -52,6 +53,18 @@ impl Blocks {
     {
         check_spans(self.geo.blocks, &[blocks])?;
         check_meta(dev, self.geo)?;
+        self.discard_each(dev, blocks)?;
+        Ok(())
+    }
+
+    // Makes blocks that exist absent, one after the other.
+    fn discard_each<L: Lines>(&mut self, dev: &mut L, blocks: Span) -> Result<(), Interruption>
+        requires ready { AreReady self.old (L.state dev.old) }
+        requires good { HasGoodMetadata self.old.geo (L.state dev.old).medium }
+        requires within { blocks.start + blocks.len ≤ self.old.geo.blocks }
+        ensures works { WorksOnBlocks L.state self.old self.new dev.old dev.new result
+            (change (blocks ∷ []) Absent) IsMixed (11 * blocks.len) (5 * blocks.len) }
+    {
         for block in blocks.start..blocks.start + blocks.len {
             let one = Span {
                 start: block,
@@ -63,6 +76,7 @@ impl Blocks {
     }
 
     // Gives the blocks of spans a state without bytes, all of them or none.
+    #[tactic(auto, using(crate::proofs::PassedLemmas::meta_passed))]
     fn change_together<L: Lines>(
         &mut self,
         dev: &mut L,

@@ -18,6 +18,7 @@ use nvm_base::Span;
 impl Blocks {
     /// Writes ranges of whole blocks together: wherever the power goes, all have their old bytes or all their new ones. A
     /// range has its first block and its length in bytes, and the bytes of the ranges follow each other.
+    #[tactic(auto, using(crate::proofs::PassedLemmas::meta_passed))]
     pub fn atomic_multiwrite<L: Lines>(
         &mut self,
         dev: &mut L,

@@ -1,16 +1,20 @@
-use Rattle.std.proofs.Common.{subst}
-use Rattle.line_words.proofs.BesideLemmas.{beside-refl}
-use Rattle.block_device.specs.Object.{BlocksState, HasGoodMetadata}
-use Rattle.block_device.proofs.PassedLemmas.{meta_passed}
+use Rattle.nvm_model.specs.Blocks.{write_ranges}
+use Rattle.block_device.specs.Object.{BlocksState}
+use Rattle.block_device.specs.Refusals.{ranges_refusal}
+use Rattle.block_device.proofs.CallLemmas.{refused_first, refused_meta}
+use Rattle.block_device.specs.Images.{IsEither}
 use Rattle.block_device.proofs.Blocks.atomic_multiwrite.Goals as goal
 
-pub returns-in_err-check_ranges-clause-outside : goal.returns-in_err-check_ranges-clause-outside
-returns-in_err-check_ranges-clause-outside g c = beside-refl _ _
+pub returns-in_err-check_ranges : goal.returns-in_err-check_ranges
+returns-in_err-check_ranges g c = record {
+  changes =
+      refused_first g.L.Lines.state _ c.args.self.now c.self.view_is c.args.dev.now c.requires.ready (λ (s : BlocksState). ranges_refusal s.geo.blocks c.args.ranges.now) (write_ranges c.args.ranges.now c.args.bytes.now) IsEither _ _
+      c.from_residual.result c.in_err-check_ranges.field-0.0 c.from_residual.ensures.1 c.in_err-check_ranges.ensures;
+}
 
-pub returns-in_err-check_meta-clause-outside : goal.returns-in_err-check_meta-clause-outside
-returns-in_err-check_meta-clause-outside g c = beside-refl _ _
-
-pub write_apart-requires-clause-good : goal.write_apart-requires-clause-good
-write_apart-requires-clause-good g c =
-    let m = (g.L.Lines.state c.args.dev.now).medium in
-    subst (λ (s : BlocksState). HasGoodMetadata s.geo m) c.self.view_is (meta_passed c.self.inside.geo m _ c.in_ok-check_meta.ensures)
+pub returns-in_err-check_meta : goal.returns-in_err-check_meta
+returns-in_err-check_meta g c = record {
+  changes =
+      refused_meta g.L.Lines.state _ c.args.self.now c.self.view_is c.args.dev.now c.requires.ready (λ (s : BlocksState). ranges_refusal s.geo.blocks c.args.ranges.now) (write_ranges c.args.ranges.now c.args.bytes.now) IsEither _ _
+      c.from_residual-in_err-check_meta.result c.in_err-check_meta.field-0.0 c.from_residual-in_err-check_meta.ensures.1 c.in_ok-check_ranges.field-0 c.in_ok-check_ranges.ensures c.in_err-check_meta.ensures;
+}

@@ -1,22 +1,21 @@
--- Spans that pass the tests may change together.
-use Rattle.std.proofs.Common.{subst}
-use Rattle.line_words.proofs.BesideLemmas.{beside-refl}
-use Rattle.block_device.specs.Object.{BlocksState, HasGoodMetadata}
-use Rattle.block_device.specs.Prepared.{AreTogether}
-use Rattle.block_device.proofs.PassedLemmas.{together_passed, meta_passed}
+use Rattle.nvm_model.specs.Blocks.{change}
+use Rattle.block_device.specs.Object.{BlocksState}
+use Rattle.block_device.specs.Refusals.{together_refusal}
+use Rattle.block_device.proofs.CallLemmas.{refused_first, refused_meta}
+use Rattle.block_device.specs.Images.{IsEither}
+use Rattle.block_device.specs.Changes.{bare_block}
 use Rattle.block_device.proofs.Blocks.change_together.Goals as goal
 
-pub returns-in_err-check_together-clause-outside : goal.returns-in_err-check_together-clause-outside
-returns-in_err-check_together-clause-outside g c = beside-refl _ _
+pub returns-in_err-check_together : goal.returns-in_err-check_together
+returns-in_err-check_together g c = record {
+  changes =
+      refused_first g.L.Lines.state _ c.args.self.now c.self.view_is c.args.dev.now c.requires.ready (λ (s : BlocksState). together_refusal s.geo.blocks c.args.spans.now) (change c.args.spans.now (bare_block c.args.state)) IsEither _ _
+      c.from_residual.result c.in_err-check_together.field-0.0 c.from_residual.ensures.1 c.in_err-check_together.ensures;
+}
 
-pub returns-in_err-check_meta-clause-outside : goal.returns-in_err-check_meta-clause-outside
-returns-in_err-check_meta-clause-outside g c = beside-refl _ _
-
-pub change_apart-requires-clause-good : goal.change_apart-requires-clause-good
-change_apart-requires-clause-good g c =
-    let m = (g.L.Lines.state c.args.dev.now).medium in
-    subst (λ (s : BlocksState). HasGoodMetadata s.geo m) c.self.view_is (meta_passed c.self.inside.geo m _ c.in_ok-check_meta.ensures)
-
-pub change_apart-requires-clause-together : goal.change_apart-requires-clause-together
-change_apart-requires-clause-together g c =
-    subst (λ (s : BlocksState). AreTogether s.geo.blocks c.args.spans.now) c.self.view_is (together_passed c.self.inside.geo.blocks c.args.spans.now _ c.in_ok-check_together.ensures)
+pub returns-in_err-check_meta : goal.returns-in_err-check_meta
+returns-in_err-check_meta g c = record {
+  changes =
+      refused_meta g.L.Lines.state _ c.args.self.now c.self.view_is c.args.dev.now c.requires.ready (λ (s : BlocksState). together_refusal s.geo.blocks c.args.spans.now) (change c.args.spans.now (bare_block c.args.state)) IsEither _ _
+      c.from_residual-in_err-check_meta.result c.in_err-check_meta.field-0.0 c.from_residual-in_err-check_meta.ensures.1 c.in_ok-check_together.field-0 c.in_ok-check_together.ensures c.in_err-check_meta.ensures;
+}
