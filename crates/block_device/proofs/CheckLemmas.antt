@@ -14,7 +14,9 @@ use Rattle.range_sets.specs.Ranges.{HasBytes, IsInReach}
 use Rattle.block_device.specs.declared.fault.BlockFault.{BlockFault}
 use Rattle.block_device.specs.declared.fault.BlockFault.TheVariants as fault
 use Rattle.block_device.specs.Refusals.Refusal.{Limit, Overlap, Meta}
-use Rattle.block_device.specs.Refusals.{Refusal, Checks, where_, spans_refusal, meta_refusal}
+use Rattle.std.proofs.lemmas.Grind.{common_steps}
+use Rattle.block_device.specs.Object.{BlocksState}
+use Rattle.block_device.specs.Refusals.{Refusal, Checks, where_, spans_refusal, meta_refusal, atomic_refusal, multiwrite_refusal}
 
 -- what the first of two tests finds, and what the second does where the first passes
 pub checks_first : (T : Type 0) (a b : Option Refusal) (f : BlockFault) → Checks {T = T} a (Err f) → Checks {T = T} (first_there a b) (Err f)
@@ -74,3 +76,7 @@ meta_found T geo m lines n all is =
 
 pub meta_passes : (T : Type 0) (x : T) (geo : Geometry) (m : Medium) (lines : ℕ) → lines ≡ meta_lines geo → None ≡ position m.is_bad (range_with_len 0 lines) → Checks (meta_refusal geo m) (Ok x)
 meta_passes T x geo m lines all is = subst (λ o. Checks (option_map Meta o) (Ok x)) (is ∙ ap (λ k. position m.is_bad (range_with_len 0 k)) all) tt
+
+-- one range is refused as its bytes are
+pub one_refusal : (s : BlocksState) (m : Medium) (block len : ℕ) → multiwrite_refusal s m (record { start = block; len = len } ∷ []) ≡ atomic_refusal s m block len
+one_refusal s m block len = grind (arith, common_steps)

@@ -1,18 +1,31 @@
 -- What a read that is stopped leaves in a buffer.
-use Rattle.std.proofs.Common.{◌≡◌, ◌+◌, ◌-◌, ◌*◌, ◌≤◌, ℕ, List, ◌++◌, length, take, drop, length-take, length-drop, Result, Ok, Err, OnErr, refl, ap, ◌∙◌, subst, arith}
+use Rattle.std.proofs.Common.{◌≡◌, ◌+◌, ◌-◌, ◌*◌, ◌≤◌, ℕ, List, ◌++◌, length, take, drop, length-take, length-drop, Result, Ok, Err, IsErrAnd, OnErr, refl, sym, ap, ◌∙◌, subst, arith}
 use borrow.Rule.Slice.PartMut.{put_mid}
 use Rattle.std.proofs.lemmas.List.{take-append-drop}
 use Rattle.nvm_model.specs.Blocks.{byte_of_blocks, look_blocks}
 use Rattle.nvm_model.specs.Numbered.{AreMixed}
 use Rattle.nvm_model.specs.Storage.{Block}
 use Rattle.nvm_model.proofs.MixedLemmas.{mixed-between, mixed-filled, mixed-part}
+use Rattle.line_device.specs.Device.{Device}
+use Rattle.line_device.specs.Medium.{WritesBack}
+use Rattle.line_device.specs.Panel.{Runs}
+use Rattle.line_words.specs.declared.interruption.Interruption.{Interruption}
+use Rattle.line_words.specs.Ending.{ended, stop_outcome}
+use Rattle.block_device.specs.Calls.{FillsBuffer}
 use Rattle.block_device.specs.Reading.{byte_of, bytes_read}
 use Rattle.block_device.proofs.BlockLemmas.{looked_more}
 use Rattle.block_device.proofs.BufferLemmas.{length-bytes_read, mid_is}
 
-pub on_err : {T E : Type 0} (r : Result T E) {P : Type 0} → P → OnErr r P
-on_err (Ok x) holds = tt
-on_err (Err e) holds = holds
+-- a call that was stopped while it filled a buffer
+pub fills_stopped : (before after : Device) (old new : List ℕ) (r : Result (Unit {0}) Interruption) (stop : Interruption) (bytes : List ℕ) (calls : ℕ) → IsErrAnd r (λ e. e ≡ stop) → AreMixed ℕ old bytes new → WritesBack before.medium after.medium → Runs calls 0 (stop_outcome stop) before.panel after.panel
+    → FillsBuffer before after old new r (ended r) bytes calls
+fills_stopped before after old new (Ok x) stop bytes calls is mixed lines runs = absurd is
+fills_stopped before after old new (Err e) stop bytes calls is mixed lines runs = record {
+  ok = tt;
+  err = mixed;
+  lines = lines;
+  runs = subst (λ o. Runs calls 0 (stop_outcome o) before.panel after.panel) (sym is) runs;
+}
 
 -- the buffer with the piece that it had
 mid_was : (at k : ℕ) (s : List ℕ) → put_mid at k s (take k (drop at s)) ≡ s

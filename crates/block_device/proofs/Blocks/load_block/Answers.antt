@@ -20,25 +20,22 @@ load_unit-requires-clause-healthy g c k within =
     let all = unit_lines s log m c.args.block c.in-At.unit c.block_line.result (subst (λ (s : BlocksState). IsKept s log) c.self.view_is c.self.invariant) c.requires.serves at line in
     (omega arith, unit_good s m c.args.block c.in-At.unit c.block_line.result at line c.requires.readable k within)
 
-pub returns-in-At-clause-ok : goal.returns-in-At-clause-ok
-returns-in-At-clause-ok g c =
+pub returns-in-At : goal.returns-in-At
+returns-in-At g c =
     let s = c.args.self.now in
     let m = (g.L.Lines.state c.args.dev.now).medium in
     let at = subst (λ (s : BlocksState). slice_get s.map c.args.block ≡ Some (state.At c.in-At.unit)) c.self.view_is c.in-At.ensures.state in
     let line = c.block_line.ensures ∙ ap (λ (s : BlocksState). block_line s.geo c.in-At.unit) c.self.view_is in
-    block_put c.load_unit.result (blocks_of s m) c.args.block c.args.at c.args.out.now c.load_unit.new.out (bytes_read (last_image m) (64 * c.block_line.result) 512)
-    c.requires.within c.load_unit.ensures.ok
-    (unit_read s m c.args.block c.in-At.unit c.block_line.result at line (unit_good s m c.args.block c.in-At.unit c.block_line.result at line c.requires.readable))
-
-pub returns-in-At-clause-err : goal.returns-in-At-clause-err
-returns-in-At-clause-err g c =
-    let s = c.args.self.now in
-    let m = (g.L.Lines.state c.args.dev.now).medium in
-    let at = subst (λ (s : BlocksState). slice_get s.map c.args.block ≡ Some (state.At c.in-At.unit)) c.self.view_is c.in-At.ensures.state in
-    let line = c.block_line.ensures ∙ ap (λ (s : BlocksState). block_line s.geo c.in-At.unit) c.self.view_is in
-    unit_part_put c.load_unit.result (last_image m) (blocks_of s m) c.args.block (64 * c.block_line.result) c.args.at c.args.out.now c.load_unit.new.out
-    c.requires.within c.load_unit.ensures.err
-    (unit_read s m c.args.block c.in-At.unit c.block_line.result at line (unit_good s m c.args.block c.in-At.unit c.block_line.result at line c.requires.readable))
+    let read = unit_read s m c.args.block c.in-At.unit c.block_line.result at line (unit_good s m c.args.block c.in-At.unit c.block_line.result at line c.requires.readable) in
+    let unit = c.load_unit.ensures.fills in
+    record {
+      fills = record {
+        ok = block_put c.load_unit.result (blocks_of s m) c.args.block c.args.at c.args.out.now c.load_unit.new.out (bytes_read (last_image m) (64 * c.block_line.result) 512) c.requires.within unit.ok read;
+        err = unit_part_put c.load_unit.result (last_image m) (blocks_of s m) c.args.block (64 * c.block_line.result) c.args.at c.args.out.now c.load_unit.new.out c.requires.within unit.err read;
+        lines = unit.lines;
+        runs = unit.runs;
+      };
+    }
 
 pub returns-in-Absent : goal.returns-in-Absent
 returns-in-Absent g c =
@@ -46,8 +43,10 @@ returns-in-Absent g c =
     let m = (g.L.Lines.state c.args.dev.now).medium in
     let state = subst (λ (s : BlocksState). slice_get s.map c.args.block ≡ Some c.get.result) c.self.view_is c.get.ensures.state in
     record {
-      ok = zeros_put s m c.args.block c.args.at c.get.result c.args.out.now c.zero.new.out c.requires.within state c.in-Absent.is (omega (arith, c.zero.auto.out, length-take {A = ℕ}, length-drop {A = ℕ})) c.zero.ensures;
-      err = tt;
-      lines = write_back-refl _;
-      runs = runs_within 0 0 8 0 _ _ _ (runs-refl _) (omega arith) (omega arith);
+      fills = record {
+        ok = zeros_put s m c.args.block c.args.at c.get.result c.args.out.now c.zero.new.out c.requires.within state c.in-Absent.is (omega (arith, c.zero.auto.out, length-take {A = ℕ}, length-drop {A = ℕ})) c.zero.ensures;
+        err = tt;
+        lines = write_back-refl _;
+        runs = runs_within 0 0 8 0 _ _ _ (runs-refl _) (omega arith) (omega arith);
+      };
     }
