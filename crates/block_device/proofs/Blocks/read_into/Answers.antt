@@ -1,7 +1,14 @@
 use Rattle.std.proofs.Common.{true, false, subst, sym}
 use Rattle.block_device.specs.Object.{BlocksState, BlocksServe}
+use Rattle.block_device.proofs.CallLemmas.{fills_refused}
 use Rattle.block_device.proofs.ServesLemmas.{serves-write_back, serves_settled}
 use Rattle.block_device.proofs.Blocks.read_into.Goals as goal
+
+pub returns-in_err-check_bytes-clause-fills : goal.returns-in_err-check_bytes-clause-fills
+returns-in_err-check_bytes-clause-fills g c = fills_refused _ _ _ _ _ c.from_residual.result c.in_err-check_bytes.field-0.0 c.from_residual.ensures.1 c.in_err-check_bytes.ensures
+
+pub returns-in_err-check_readable-clause-fills : goal.returns-in_err-check_readable-clause-fills
+returns-in_err-check_readable-clause-fills g c = fills_refused _ _ _ _ _ c.from_residual-in_err-check_readable.result c.in_err-check_readable.field-0.0 c.from_residual-in_err-check_readable.ensures.1 c.in_err-check_readable.ensures
 
 pub load_blocks-requires-clause-serves : goal.load_blocks-requires-clause-serves
 load_blocks-requires-clause-serves g c =
