@@ -1,29 +1,17 @@
 -- Spans of blocks that change together to a state without bytes.
-use Rattle.std.proofs.Common.{◌≡◌, ℕ, false, ◌<◌, ◌+◌, List, [], ◌∷◌, length, nat_lt, sum_by, lit≤, IsTrue, Result, Ok, Err, OnOk, refl, sym, ◌∙◌, ap, subst, arith}
-use Rattle.std.proofs.lemmas.Bool.{le-ltb, or_from}
+use Rattle.std.proofs.Common.{◌≡◌, false, ◌<◌, ◌+◌, List, length, nat_lt, sum_by, sym, ◌∙◌, ap, subst}
 use Rattle.std.specs.List.{list_any}
 use Rattle.nvm_base.specs.declared.units.Span.{Span}
 use Rattle.line_device.specs.Device.{Device}
 use Rattle.line_device.specs.Medium.{Medium, last_image}
-use Rattle.line_words.specs.Words.{WritesBackOutside, WritesBackBeside}
-use Rattle.line_words.proofs.BesideLemmas.{beside-outside}
-use Rattle.word_tables.specs.Bounds.{IsValid}
-use Rattle.word_tables.specs.declared.geometry.Geometry.{Geometry}
 use Rattle.word_log.specs.declared.area.LogArea.{LogArea}
-use Rattle.word_log.specs.Area.{IsOf}
 use Rattle.nvm_model.specs.Blocks.{change}
 use Rattle.block_map.specs.declared.state.BlockState.{BlockState}
 use Rattle.block_device.specs.declared.change.Change.{Change}
 use Rattle.block_device.specs.Calls.{AreReady}
-use Rattle.block_device.specs.Area.{block_area, IsBlockLine}
-use Rattle.block_device.specs.Reading.{map_read}
-use Rattle.block_device.specs.Object.{BlocksState, IsKept, BlocksServe, AreDurable, HasGoodMetadata, IsInStep, blocks_of, is_at}
+use Rattle.block_device.specs.Object.{BlocksState, IsKept, BlocksServe, AreDurable, IsInStep, blocks_of, is_at}
 use Rattle.block_device.specs.Changes.{bare_block, changed_map, changes_in, units_named, MayChange, AreTaken}
 use Rattle.block_device.specs.Prepared.{ArePrepared, AreTogether, blocks_with}
-use Rattle.block_device.specs.Images.{EachReads, IsEither}
-use Rattle.block_device.proofs.ReadLemmas.{map_read-outside}
-use Rattle.block_device.proofs.PlaceLemmas.{area_is_block, named_apart}
-use Rattle.block_device.proofs.ChangeLemmas.{is_map-changed, length-changed_map}
 use Rattle.block_device.proofs.BareLemmas.{changed_blocks}
 use Rattle.block_device.proofs.BareChangeLemmas.{all_to-changes_in, bare_may_change, bare_taken, bare_units, bare_durable, some_changes}
 use Rattle.block_device.proofs.SpanLemmas.{length-changes_in}
