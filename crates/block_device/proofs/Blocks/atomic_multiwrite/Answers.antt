@@ -8,13 +8,11 @@ use Rattle.block_device.proofs.Blocks.atomic_multiwrite.Goals as goal
 pub returns-in_err-check_ranges : goal.returns-in_err-check_ranges
 returns-in_err-check_ranges g c = record {
   changes =
-      refused_first g.L.Lines.state _ c.args.self.now c.self.view_is c.args.dev.now c.requires.ready (λ (s : BlocksState). ranges_refusal s.geo.blocks c.args.ranges.now) (write_ranges c.args.ranges.now c.args.bytes.now) IsEither _ _
-      c.from_residual.result c.in_err-check_ranges.field-0.0 c.from_residual.ensures.1 c.in_err-check_ranges.ensures;
+      refused_first _ _ _ c.self.view_is _ c.requires.ready (λ (s : BlocksState). ranges_refusal s.geo.blocks c.args.ranges.now) _ _ _ _ _ _ c.from_residual.ensures.1 c.in_err-check_ranges.ensures;
 }
 
 pub returns-in_err-check_meta : goal.returns-in_err-check_meta
 returns-in_err-check_meta g c = record {
   changes =
-      refused_meta g.L.Lines.state _ c.args.self.now c.self.view_is c.args.dev.now c.requires.ready (λ (s : BlocksState). ranges_refusal s.geo.blocks c.args.ranges.now) (write_ranges c.args.ranges.now c.args.bytes.now) IsEither _ _
-      c.from_residual-in_err-check_meta.result c.in_err-check_meta.field-0.0 c.from_residual-in_err-check_meta.ensures.1 c.in_ok-check_ranges.field-0 c.in_ok-check_ranges.ensures c.in_err-check_meta.ensures;
+      refused_meta _ _ _ c.self.view_is _ c.requires.ready (λ (s : BlocksState). ranges_refusal s.geo.blocks c.args.ranges.now) _ _ _ _ _ _ c.from_residual-in_err-check_meta.ensures.1 c.in_ok-check_ranges.field-0 c.in_ok-check_ranges.ensures c.in_err-check_meta.ensures;
 }

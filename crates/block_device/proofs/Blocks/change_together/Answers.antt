@@ -9,13 +9,11 @@ use Rattle.block_device.proofs.Blocks.change_together.Goals as goal
 pub returns-in_err-check_together : goal.returns-in_err-check_together
 returns-in_err-check_together g c = record {
   changes =
-      refused_first g.L.Lines.state _ c.args.self.now c.self.view_is c.args.dev.now c.requires.ready (λ (s : BlocksState). together_refusal s.geo.blocks c.args.spans.now) (change c.args.spans.now (bare_block c.args.state)) IsEither _ _
-      c.from_residual.result c.in_err-check_together.field-0.0 c.from_residual.ensures.1 c.in_err-check_together.ensures;
+      refused_first _ _ _ c.self.view_is _ c.requires.ready (λ (s : BlocksState). together_refusal s.geo.blocks c.args.spans.now) _ _ _ _ _ _ c.from_residual.ensures.1 c.in_err-check_together.ensures;
 }
 
 pub returns-in_err-check_meta : goal.returns-in_err-check_meta
 returns-in_err-check_meta g c = record {
   changes =
-      refused_meta g.L.Lines.state _ c.args.self.now c.self.view_is c.args.dev.now c.requires.ready (λ (s : BlocksState). together_refusal s.geo.blocks c.args.spans.now) (change c.args.spans.now (bare_block c.args.state)) IsEither _ _
-      c.from_residual-in_err-check_meta.result c.in_err-check_meta.field-0.0 c.from_residual-in_err-check_meta.ensures.1 c.in_ok-check_together.field-0 c.in_ok-check_together.ensures c.in_err-check_meta.ensures;
+      refused_meta _ _ _ c.self.view_is _ c.requires.ready (λ (s : BlocksState). together_refusal s.geo.blocks c.args.spans.now) _ _ _ _ _ _ c.from_residual-in_err-check_meta.ensures.1 c.in_ok-check_together.field-0 c.in_ok-check_together.ensures c.in_err-check_meta.ensures;
 }

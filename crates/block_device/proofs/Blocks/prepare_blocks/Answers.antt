@@ -1,4 +1,4 @@
-use Rattle.std.proofs.Common.{◌≡◌, ◌/◌, ◌++◌, length, sym, ◌∙◌, ap, arith, append-nil}
+use Rattle.std.proofs.Common.{◌≡◌, ◌/◌, ◌++◌, length, sym, ◌∙◌, ap, arith, rules, append-nil}
 use Rattle.line_device.proofs.PanelLemmas.{runs-refl, runs_then, runs_within}
 use Rattle.nvm_model.specs.Numbered.{list_from}
 use Rattle.nvm_model.specs.Blocks.{write}
@@ -51,15 +51,4 @@ loop-k-preserved g c =
     }
 
 pub returns : goal.returns
-returns g c =
-    let made = c.loop-k.invariant in
-    let all : c.loop-k.k ≡ length c.args.bytes.now / 512 = omega arith in
-    record {
-      prepares = record {
-        as_before = made.as_before;
-        prepared = made.prepared;
-        numbered = made.numbered ∙ ap (λ n. numbers_of c.args.changes.now.items ++ list_from (λ b. b) c.args.block n) all;
-        written = made.written ∙ written-all c.args.block c.loop-k.k c.args.bytes.now _ all;
-        runs = runs_within _ _ _ _ _ _ _ made.runs (omega arith) (omega arith);
-      };
-    }
+returns g c = search (rules, written-all)

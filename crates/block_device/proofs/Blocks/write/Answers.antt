@@ -8,13 +8,11 @@ use Rattle.block_device.proofs.Blocks.write.Goals as goal
 pub returns-in_err-check_bytes : goal.returns-in_err-check_bytes
 returns-in_err-check_bytes g c = record {
   changes =
-      refused_first g.L.Lines.state _ c.args.self.now c.self.view_is c.args.dev.now c.requires.ready (λ (s : BlocksState). bytes_refusal s.geo.blocks c.args.block (length c.args.bytes.now)) (write c.args.block c.args.bytes.now) IsMixed _ _
-      c.from_residual.result c.in_err-check_bytes.field-0.0 c.from_residual.ensures.1 c.in_err-check_bytes.ensures;
+      refused_first _ _ _ c.self.view_is _ c.requires.ready (λ (s : BlocksState). bytes_refusal s.geo.blocks c.args.block (length c.args.bytes.now)) _ _ _ _ _ _ c.from_residual.ensures.1 c.in_err-check_bytes.ensures;
 }
 
 pub returns-in_err-check_meta : goal.returns-in_err-check_meta
 returns-in_err-check_meta g c = record {
   changes =
-      refused_meta g.L.Lines.state _ c.args.self.now c.self.view_is c.args.dev.now c.requires.ready (λ (s : BlocksState). bytes_refusal s.geo.blocks c.args.block (length c.args.bytes.now)) (write c.args.block c.args.bytes.now) IsMixed _ _
-      c.from_residual-in_err-check_meta.result c.in_err-check_meta.field-0.0 c.from_residual-in_err-check_meta.ensures.1 c.in_ok-check_bytes.field-0 c.in_ok-check_bytes.ensures c.in_err-check_meta.ensures;
+      refused_meta _ _ _ c.self.view_is _ c.requires.ready (λ (s : BlocksState). bytes_refusal s.geo.blocks c.args.block (length c.args.bytes.now)) _ _ _ _ _ _ c.from_residual-in_err-check_meta.ensures.1 c.in_ok-check_bytes.field-0 c.in_ok-check_bytes.ensures c.in_err-check_meta.ensures;
 }
